@@ -1,0 +1,82 @@
+-- What stands in a row: a test for it, and that there are at most as many wishes as boats, since each stands once.
+-- Assumes nothing.
+use mathlib.Core.Path.{_≡_, refl, sym, ap, subst, _∙_}
+use mathlib.Core.Bool.{Bool, true, false}
+use mathlib.Core.List.{List, [], _∷_}
+use mathlib.Core.Logic.{_⊎_, inl, inr, _≢_}
+use Prim.Native.Nat.{ℕ, zero, suc, _≤_, _<_}
+use native.Mathlib.Omega.{arith}
+use lib.Dec.{eqb}
+use lib.ListN.{length}
+use Rattle.std.proofs.shelf.Tests.{eqb-true, eqb-false, or-parts}
+use Rattle.exchange.specs.Rows.{Rows, row, _∈_, has, Fresh, WellFormed}
+
+pub has-false : (xs : List ℕ) (x : ℕ) → has xs x ≡ false → ¬ (x ∈ xs)
+has-false [] x e h = h
+has-false (y ∷ ys) x e (inl g) = eqb-false x y (or-parts (eqb x y) (has ys x) e .0) g
+has-false (y ∷ ys) x e (inr g) = has-false ys x (or-parts (eqb x y) (has ys x) e .1) g
+
+-- less to be apart from
+fresh-weaken : (before after xs : List ℕ) → ((z : ℕ) → z ∈ after → z ∈ before) → Fresh before xs → Fresh after xs
+fresh-weaken before after [] h f = tt
+fresh-weaken before after (x ∷ xs) h f = (
+  λ z. f .0 (h x z),
+  fresh-weaken (x ∷ before) (x ∷ after) xs (λ z. elim [ inl e ↦ inl e | inr g ↦ inr (h z g) ]) (f .1),
+)
+
+abbrev put-unless : Bool → ℕ → List ℕ → List ℕ
+put-unless true x xs = xs
+put-unless false x xs = x ∷ xs
+
+-- the elements other than m
+abbrev others : ℕ → List ℕ → List ℕ
+others m [] = []
+others m (x ∷ xs) = put-unless (eqb x m) x (others m xs)
+
+in-put : (m w x : ℕ) (rest xs : List ℕ) (b : Bool) → eqb x m ≡ b → (w ∈ rest → (w ∈ xs) × (w ≢ m)) → w ∈ put-unless b x rest → (w ∈ (x ∷ xs)) × (w ≢ m)
+in-put m w x rest xs true e h g = (inr (h g .0), h g .1)
+in-put m w x rest xs false e h (inl g) = (inl g, λ z. eqb-false x m e (sym g ∙ z))
+in-put m w x rest xs false e h (inr g) = (inr (h g .0), h g .1)
+
+in-others : (m w : ℕ) (xs : List ℕ) → w ∈ others m xs → (w ∈ xs) × (w ≢ m)
+in-others m w [] h = absurd h
+in-others m w (x ∷ xs) h = in-put m w x (others m xs) xs (eqb x m) refl (in-others m w xs) h
+
+-- of fresh elements at most one is m
+abbrev Fewer : ℕ → List ℕ → List ℕ → List ℕ → Type 0
+Fewer m before xs rest = (length xs ≤ suc (length rest)) × Fresh before rest
+
+fewer-put : (m x : ℕ) (before xs : List ℕ) (b : Bool) → eqb x m ≡ b → ¬ (x ∈ before) → Fresh (x ∷ before) xs
+    → (m ∈ (x ∷ before) → others m xs ≡ xs) → Fewer m (x ∷ before) xs (others m xs) → Fewer m before (x ∷ xs) (put-unless b x (others m xs))
+fewer-put m x before xs true e n f same h =
+    let s = same (inl (sym (eqb-true x m e))) in
+    (omega (arith, ap length s), fresh-weaken (x ∷ before) before (others m xs) (λ z g. inr g) (h .1))
+fewer-put m x before xs false e n f same h = (omega (arith, h .0), (n, h .1))
+
+keep : (m x : ℕ) (xs rest : List ℕ) (b : Bool) → eqb x m ≡ b → (x ≢ m) → rest ≡ xs → put-unless b x rest ≡ x ∷ xs
+keep m x xs rest true e n h = absurd (n (eqb-true x m e))
+keep m x xs rest false e n h = ap (λ z. x ∷ z) h
+
+none-left : (m : ℕ) (before xs : List ℕ) → m ∈ before → Fresh before xs → others m xs ≡ xs
+none-left m before [] h f = refl
+none-left m before (x ∷ xs) h f =
+    keep m x xs (others m xs) (eqb x m) refl (λ e. f .0 (subst (λ z. z ∈ before) (sym e) h)) (none-left m (x ∷ before) xs (inr h) (f .1))
+
+fewer : (m : ℕ) (before xs : List ℕ) → Fresh before xs → Fewer m before xs (others m xs)
+fewer m before [] f = (omega arith, tt)
+fewer m before (x ∷ xs) f =
+    fewer-put m x before xs (eqb x m) refl (f .0) (f .1) (λ h. none-left m (x ∷ before) xs h (f .1)) (fewer m (x ∷ before) xs (f .1))
+
+pub fresh-short : (n : ℕ) (xs : List ℕ) → Fresh [] xs → ((w : ℕ) → w ∈ xs → w < n) → length xs ≤ n
+fresh-short zero [] f h = omega arith
+fresh-short zero (x ∷ xs) f h = absurd (let z = h x (inl refl) in omega arith)
+fresh-short (suc m) xs f h =
+    let few = fewer m [] xs f in
+    let rest = fresh-short m (others m xs) (few .1) (λ w g. let i = in-others m w xs g in let b = h w (i .0) in let ne = i .1 in omega arith) in
+    omega (arith, few .0)
+
+pub row-short : (rows : Rows) → WellFormed rows → (u : ℕ) → length (row rows u) ≤ 256
+row-short rows ok u =
+    let short = fresh-short (length rows) (row rows u) (ok .once u) (ok .below u) in
+    let few = ok .few in
+    omega arith

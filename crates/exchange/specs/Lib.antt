@@ -1,0 +1,4 @@
+pub mod Bounds
+pub mod Checks
+pub mod Faults
+pub mod Rows
