@@ -26,12 +26,17 @@ pub first-none : (o : Option Fault) (checks : List (Option Fault)) → first-of 
 first-none None checks e = (refl, e)
 first-none (Some f) checks e = absurd (let z : _≡_ {A = ℕ} 0 1 = cc in omega arith)
 
+pub first-one : (o : Option Fault) → first-of (o ∷ []) ≡ o
+first-one None = refl
+first-one (Some f) = refl
+
 -- an accepted input has no fault
-pub accepted : {X : Type 0} (o : Option Fault) (x y : X) → unless o x ≡ Ok y → o ≡ None
+pub accepted : {X : Type 0} (o : Option Fault) (x y : X) → Ok y ≡ unless o x → o ≡ None
 accepted None x y e = refl
 accepted (Some f) x y e = absurd (let z : _≡_ {A = ℕ} 0 1 = cc in omega arith)
 
-pub refused : {X : Type 0} (o : Option Fault) (x : X) (f : Fault) → unless o x ≡ Err f → o ≡ Some f
+-- and a refused one has that fault
+pub refused : {X : Type 0} (o : Option Fault) (x : X) (f : Fault) → Err f ≡ unless o x → o ≡ Some f
 refused None x f e = absurd (let z : _≡_ {A = ℕ} 0 1 = cc in omega arith)
 refused (Some g) x f e = let h : g ≡ f = cc in ap Some h
 
@@ -40,16 +45,24 @@ abbrev pub along : (ℕ → Option Fault) → ℕ → ℕ → Option Fault
 along t i n = first-of (map t (counting i (n - i)))
 
 module _ (t : ℕ → Option Fault) where
-  pub along-more : (i n : ℕ) (o : Option Fault) → i < n → t i ≡ o → along t i n ≡ first-of (o ∷ map t (counting (i + 1) (n - (i + 1))))
-  along-more i n o h e =
+  pub along-start : (n : ℕ) → along t 0 n ≡ first-of (map t (counting 0 n))
+  along-start n = let k : n - 0 ≡ n = omega arith in ap (λ m. first-of (map t (counting 0 m))) k
+
+  more : (i n : ℕ) (o : Option Fault) → i < n → t i ≡ o → along t i n ≡ first-of (o ∷ map t (counting (i + 1) (n - (i + 1))))
+  more i n o h e =
       let k : n - i ≡ suc (n - (i + 1)) = omega arith in
       ap (λ m. first-of (map t (counting i m))) k ∙ ap (λ z. first-of (z ∷ map t (counting (i + 1) (n - (i + 1))))) e
 
-  pub along-all : (i n : ℕ) → n ≤ i → along t i n ≡ None
-  along-all i n h = let k : n - i ≡ 0 = omega arith in ap (λ m. first-of (map t (counting i m))) k
+  -- a loop that has come to place i with `total` still to tell: it goes on, it finds, or it is through
+  module _ (i n : ℕ) (total : Option Fault) (inv : along t i n ≡ total) where
+    pub along-more : i < n → t i ≡ None → along t (i + 1) n ≡ total
+    along-more h e = sym (more i n None h e) ∙ inv
 
-  pub along-start : (n : ℕ) → along t 0 n ≡ first-of (map t (counting 0 n))
-  along-start n = let k : n - 0 ≡ n = omega arith in ap (λ m. first-of (map t (counting 0 m))) k
+    pub along-found : (f : Fault) → i < n → t i ≡ Some f → Some f ≡ total
+    along-found f h e = sym (more i n (Some f) h e) ∙ inv
+
+    pub along-all : n ≤ i → None ≡ total
+    along-all h = let k : n - i ≡ 0 = omega arith in sym (ap (λ m. first-of (map t (counting i m))) k) ∙ inv
 
   -- where none of the places tells anything, the one at j does not
   pub none-at : (i c j : ℕ) → first-of (map t (counting i c)) ≡ None → i ≤ j → j < i + c → t j ≡ None

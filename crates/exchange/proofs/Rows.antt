@@ -2,19 +2,37 @@
 -- Assumes nothing.
 use mathlib.Core.Path.{_≡_, refl, sym, ap, subst, _∙_}
 use mathlib.Core.Bool.{Bool, true, false}
-use mathlib.Core.List.{List, [], _∷_}
+use mathlib.Core.List.{List, [], _∷_, _++_}
 use mathlib.Core.Logic.{_⊎_, inl, inr, _≢_}
-use Prim.Native.Nat.{ℕ, zero, suc, _≤_, _<_}
+use Prim.Native.Nat.{ℕ, zero, suc, _+_, _≤_, _<_}
+use native.Mathlib.Nat.{le-of-suc-le-suc}
 use native.Mathlib.Omega.{arith}
 use lib.Dec.{eqb}
-use lib.ListN.{length}
-use Rattle.std.proofs.shelf.Tests.{eqb-true, eqb-false, or-parts}
+use lib.ListN.{length, getD, take}
+use Rattle.std.proofs.shelf.Lists.{take-more}
+use Rattle.std.proofs.shelf.Tests.{eqb-true, eqb-false, eq-eqb, ne-eqb, or-parts, or-from, or-left, or-right}
 use Rattle.exchange.specs.Rows.{Rows, row, _∈_, has, Fresh, WellFormed}
 
 pub has-false : (xs : List ℕ) (x : ℕ) → has xs x ≡ false → ¬ (x ∈ xs)
 has-false [] x e h = h
 has-false (y ∷ ys) x e (inl g) = eqb-false x y (or-parts (eqb x y) (has ys x) e .0) g
 has-false (y ∷ ys) x e (inr g) = has-false ys x (or-parts (eqb x y) (has ys x) e .1) g
+
+-- the test along a list, one element more and at an element that stands in front
+has-push : (xs : List ℕ) (x w : ℕ) → has xs w ≡ false → (x ≡ w → ⊥) → has (xs ++ x ∷ []) w ≡ false
+has-push [] x w h n = or-from (eqb w x) false (ne-eqb w x (λ e. n (sym e))) refl
+has-push (y ∷ ys) x w h n =
+    let p = or-parts (eqb w y) (has ys w) h in or-from (eqb w y) (has (ys ++ x ∷ []) w) (p .0) (has-push ys x w (p .1) n)
+
+pub has-more : (xs : List ℕ) (i w : ℕ) → i < length xs → has (take i xs) w ≡ false → (getD xs i 0 ≡ w → ⊥) → has (take (i + 1) xs) w ≡ false
+has-more xs i w h e n = ap (λ ys. has ys w) (take-more xs i 0 h) ∙ has-push (take i xs) (getD xs i 0) w e n
+
+pub has-here : (xs : List ℕ) (i j : ℕ) → i < length xs → i < j → has (take j xs) (getD xs i 0) ≡ true
+has-here [] i j h l = absurd (omega arith)
+has-here (x ∷ xs) i zero h l = absurd (omega arith)
+has-here (x ∷ xs) zero (suc j) h l = or-left (eqb x x) (has (take j xs) x) (eq-eqb x x refl)
+has-here (x ∷ xs) (suc i) (suc j) h l =
+    or-right (eqb (getD xs i 0) x) (has (take j xs) (getD xs i 0)) (has-here xs i j (le-of-suc-le-suc h) (le-of-suc-le-suc l))
 
 -- less to be apart from
 fresh-weaken : (before after xs : List ℕ) → ((z : ℕ) → z ∈ after → z ∈ before) → Fresh before xs → Fresh after xs

@@ -1,0 +1,1 @@
+//! The book: a host that holds its rows as bytes.
