@@ -1,10 +1,10 @@
 -- What stands in a row: a test for it, and that there are at most as many wishes as boats, since each stands once.
 -- Assumes nothing.
 use mathlib.Core.Path.{_≡_, refl, sym, ap, subst, _∙_}
-use mathlib.Core.Bool.{Bool, true, false}
+use mathlib.Core.Bool.{Bool, true, false, _||_}
 use mathlib.Core.List.{List, [], _∷_, _++_}
 use mathlib.Core.Logic.{_⊎_, inl, inr, _≢_}
-use Prim.Native.Nat.{ℕ, zero, suc, _+_, _≤_, _<_}
+use Prim.Native.Nat.{ℕ, zero, suc, _+_, _≤_, _<_, suc-le-suc}
 use native.Mathlib.Nat.{le-of-suc-le-suc}
 use native.Mathlib.Omega.{arith}
 use lib.Dec.{eqb}
@@ -12,11 +12,6 @@ use lib.ListN.{length, getD, take}
 use Rattle.std.proofs.shelf.Lists.{take-more}
 use Rattle.std.proofs.shelf.Tests.{eqb-true, eqb-false, eq-eqb, ne-eqb, or-parts, or-from, or-left, or-right}
 use Rattle.exchange.specs.Rows.{Rows, row, _∈_, has, Fresh, WellFormed}
-
-pub has-false : (xs : List ℕ) (x : ℕ) → has xs x ≡ false → ¬ (x ∈ xs)
-has-false [] x e h = h
-has-false (y ∷ ys) x e (inl g) = eqb-false x y (or-parts (eqb x y) (has ys x) e .0) g
-has-false (y ∷ ys) x e (inr g) = has-false ys x (or-parts (eqb x y) (has ys x) e .1) g
 
 -- the test along a list, one element more and at an element that stands in front
 has-push : (xs : List ℕ) (x w : ℕ) → has xs w ≡ false → (x ≡ w → ⊥) → has (xs ++ x ∷ []) w ≡ false
@@ -33,6 +28,25 @@ has-here (x ∷ xs) i zero h l = absurd (omega arith)
 has-here (x ∷ xs) zero (suc j) h l = or-left (eqb x x) (has (take j xs) x) (eq-eqb x x refl)
 has-here (x ∷ xs) (suc i) (suc j) h l =
     or-right (eqb (getD xs i 0) x) (has (take j xs) (getD xs i 0)) (has-here xs i j (le-of-suc-le-suc h) (le-of-suc-le-suc l))
+
+-- what stands in a list has a place there
+pub place-of : (w : ℕ) (xs : List ℕ) → w ∈ xs → (j : ℕ) × (j < length xs) × (getD xs j 0 ≡ w)
+place-of w [] h = absurd h
+place-of w (x ∷ xs) (inl e) = (0, omega arith, sym e)
+place-of w (x ∷ xs) (inr h) = let p = place-of w xs h in (suc (p .0), suc-le-suc (p .1), p .2)
+
+-- fresh, place by place: none is among `before`, and none stands earlier in the list
+fresh-by-places : (before xs : List ℕ) → ((j : ℕ) → j < length xs → ¬ (getD xs j 0 ∈ before) × (has (take j xs) (getD xs j 0) ≡ false)) → Fresh before xs
+fresh-by-places before [] h = tt
+fresh-by-places before (x ∷ xs) h = (h 0 (omega arith) .0, fresh-by-places (x ∷ before) xs (λ j l. later j (h (suc j) (suc-le-suc l))))
+  where
+    later : (j : ℕ) → ¬ (getD xs j 0 ∈ before) × ((eqb (getD xs j 0) x || has (take j xs) (getD xs j 0)) ≡ false) → ¬ (getD xs j 0 ∈ (x ∷ before)) × (has (take j xs) (getD xs j 0) ≡ false)
+    later j p =
+        let parts = or-parts (eqb (getD xs j 0) x) (has (take j xs) (getD xs j 0)) (p .1) in
+        (elim [ inl e ↦ eqb-false (getD xs j 0) x (parts .0) e | inr g ↦ p .0 g ], parts .1)
+
+pub fresh-from-places : (xs : List ℕ) → ((j : ℕ) → j < length xs → has (take j xs) (getD xs j 0) ≡ false) → Fresh [] xs
+fresh-from-places xs h = fresh-by-places [] xs (λ j l. (λ z. z, h j l))
 
 -- less to be apart from
 fresh-weaken : (before after xs : List ℕ) → ((z : ℕ) → z ∈ after → z ∈ before) → Fresh before xs → Fresh after xs

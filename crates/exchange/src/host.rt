@@ -9,8 +9,7 @@ ghost use Rattle.exchange.specs.Rows.{Rows, row, WellFormed, wish-count};
 pub trait Host {
     ghost rows: { Self → Rows };
 
-    // What each host owes of its rows.
-    ghost sound: { (x : Self) → WellFormed (rows x) };
+    law sound: { (x : Self) → WellFormed (rows x) };
 
     /// How many boats there are.
     fn boats(&self) -> usize

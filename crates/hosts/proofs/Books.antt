@@ -9,16 +9,21 @@ use native.Mathlib.Omega.{arith}
 use lib.Dec.{ltb, leb, eqb}
 use lib.ListN.{length, getD, take, drop}
 use Rattle.std.proofs.shelf.Counted.{length-map-counting, getD-map-counting}
-use Rattle.std.proofs.shelf.Lists.{getD-past, length-drop, length-take-le}
-use Rattle.std.proofs.shelf.Tests.{not-false, ltb-false, leb-true, eqb-true, and-parts, cases-lt}
+use Rattle.std.proofs.shelf.Lists.{getD-past, length-drop, length-take-le, nil-from-length}
+use Rattle.std.proofs.shelf.Maps.{nth-getD, nth-past}
+use Rattle.std.proofs.shelf.Tests.{true≢false, not-true, not-false, or-cases, or-right, ltb-true, ltb-false, leb-true, eqb-true, eqb-false, and-parts, cases-lt}
 use Rattle.std.specs.Iters.{counting}
+use Rattle.std.specs.Options.{isSome, mapped}
+use Rattle.std.specs.Places.{Item}
+use Rattle.std.specs.shelf.Maps.{nth}
+use denote.Ref.{RefT, now}
 use Rattle.std.specs.declared.option.Option.{Option}
 use Rattle.std.specs.declared.option.Option.the-variants.{Some, None}
 use Rattle.exchange.specs.declared.fault.Fault.{Fault}
 use Rattle.exchange.specs.Checks.{refuse-if, first-of}
 use Rattle.exchange.specs.Rows.{Rows, row, _∈_, Fresh, WellFormed, has}
 use Rattle.exchange.proofs.Checks.{kept, first-one, first-none, none-at}
-use Rattle.exchange.proofs.Rows.{has-false}
+use Rattle.exchange.proofs.Rows.{place-of, fresh-from-places}
 use Rattle.hosts.specs.Books.{number, boats, wishes, table-offset, wishes-offset, row-number, wishes-at, row-at, book-row, book-rows, header-fault, previous, row-number-ok, row-number-fault, table-fault, wish-fault, row-fault, wishes-fault, book-fault, may-hold}
 use Rattle.hosts.specs.Layouts.{Header, Table}
 
@@ -91,3 +96,116 @@ row-length b u header table h =
     let within = table .within (u + 1) (omega arith) in
     let rest = length-drop (row-at b u) b in
     length-take-le (row-number b (u + 1) - row-number b u) (drop (row-at b u) b) (omega arith)
+
+-- ---- the rows of accepted bytes are well formed
+
+-- the wish at place j of row u keeps its rules
+pub record Kept (n u : ℕ) (cut : List ℕ) (j : ℕ) : Type 0 where
+  pub below : getD cut j 0 < n
+  pub other : getD cut j 0 ≢ u
+  pub once : has (take j cut) (getD cut j 0) ≡ false
+
+wish-kept : (b : List ℕ) → wishes-fault b ≡ None → (u : ℕ) → u < boats b → (j : ℕ) → j < length (book-row b u) → Kept (boats b) u (book-row b u) j
+unfolding wishes-fault row-fault
+wish-kept b e u h j l =
+    let cut = book-row b u in
+    let row = none-at (λ v. row-fault (boats b) v (row-at b v) (book-row b v)) 0 (boats b) u e (omega arith) (omega arith) in
+    let wish = none-at (wish-fault (boats b) u (row-at b u) cut) 0 (length cut) j row (omega arith) (omega arith) in
+    let known = first-none (refuse-if (not (ltb (getD cut j 0) (boats b))) _ _) _ wish in
+    let other = first-none (refuse-if (eqb (getD cut j 0) u) _ _) _ (known .1) in
+    let once = first-none (refuse-if (has (take j cut) (getD cut j 0)) _ _) _ (other .1) in
+    record {
+      below = ltb-true _ _ (not-false _ (kept _ _ _ (known .0)));
+      other = eqb-false _ _ (kept _ _ _ (other .0));
+      once = kept _ _ _ (once .0);
+    }
+
+-- a wish of row u is one of a boat's row, at some place of it
+wish-of : (b : List ℕ) → wishes-fault b ≡ None → (u w : ℕ) → w ∈ row (book-rows b) u → (w < boats b) × (w ≢ u)
+wish-of b e u w h = ⊎-elim here past (cases-lt u (boats b))
+  where
+    here : u < boats b → (w < boats b) × (w ≢ u)
+    here l =
+        let p = place-of w (book-row b u) (subst (λ r. w ∈ r) (row-is b u l) h) in
+        let k = wish-kept b e u l (p .0) (p .1) in
+        (subst (λ x. x < boats b) (p .2) (k .below), subst (λ x. x ≢ u) (p .2) (k .other))
+
+    past : boats b ≤ u → (w < boats b) × (w ≢ u)
+    past l = absurd (subst (λ r. w ∈ r) (row-past b u l) h)
+
+row-once : (b : List ℕ) → wishes-fault b ≡ None → (u : ℕ) → Fresh [] (row (book-rows b) u)
+row-once b e u =
+    ⊎-elim
+    (λ (l : u < boats b). subst (Fresh []) (sym (row-is b u l)) (fresh-from-places (book-row b u) (λ j g. wish-kept b e u l j g .once)))
+    (λ (l : boats b ≤ u). subst (Fresh []) (sym (row-past b u l)) tt)
+    (cases-lt u (boats b))
+
+pub well-formed : (b : List ℕ) → boats b ≤ 256 → wishes-fault b ≡ None → WellFormed (book-rows b)
+well-formed b few e = record {
+  few = let n = rows-length b in omega arith;
+  below = λ u w h. let n = rows-length b in let k = wish-of b e u w h .0 in omega arith;
+  other = λ u w h. wish-of b e u w h .1;
+  once = row-once b e;
+}
+
+-- ---- what a book may hold
+
+-- no bytes at all, or bytes that passed every check
+cases-held : (b : List ℕ) → may-hold b ≡ true → (b ≡ []) ⊎ (book-fault b ≡ None)
+unfolding may-hold
+cases-held b e =
+    ⊎-elim (λ h. inl (nil-from-length b (eqb-true _ _ h))) (λ h. inr (none (book-fault b) (not-true _ h)))
+    (or-cases (eqb (length b) 0) (not (isSome (book-fault b))) e)
+  where
+    none : (o : Option Fault) → isSome o ≡ false → o ≡ None
+    none None h = refl
+    none (Some f) h = absurd (true≢false h)
+
+all-passed : (b : List ℕ) → book-fault b ≡ None → (header-fault b ≡ None) × (table-fault b ≡ None) × (wishes-fault b ≡ None)
+unfolding book-fault
+all-passed b e =
+    let header = first-none (header-fault b) _ e in
+    let table = first-none (table-fault b) _ (header .1) in
+    (header .0, table .0, first-none (wishes-fault b) _ (table .1) .0)
+
+no-wishes : wishes-fault [] ≡ None
+unfolding wishes-fault
+no-wishes = refl
+
+pub held-rows : (b : List ℕ) → may-hold b ≡ true → WellFormed (book-rows b)
+held-rows b e =
+    ⊎-elim (λ h. subst (λ x. WellFormed (book-rows x)) (sym h) (well-formed [] (omega arith) no-wishes))
+    (λ h. let p = all-passed b h in well-formed b (header-facts b (p .0) .few) (p .2))
+    (cases-held b e)
+
+pub held-layout : (b : List ℕ) → may-hold b ≡ true → (u : ℕ) → u < boats b → Header b × Table b
+held-layout b e u h =
+    ⊎-elim (λ n. absurd (let z = subst (λ x. u < boats x) n h in omega arith))
+    (λ f. let p = all-passed b f in (header-facts b (p .0), table-facts b (p .1)))
+    (cases-held b e)
+
+pub held-accepted : (b : List ℕ) → book-fault b ≡ None → may-hold b ≡ true
+unfolding may-hold
+held-accepted b e = or-right (eqb (length b) 0) (not (isSome (book-fault b))) (ap (λ o. not (isSome o)) e)
+
+pub held-nothing : may-hold [] ≡ true
+unfolding may-hold
+held-nothing = refl
+
+pub no-rows : book-rows [] ≡ []
+unfolding book-rows
+no-rows = refl
+
+-- a book that holds something holds a header
+pub held-long : (b : List ℕ) → may-hold b ≡ true → 0 < length b → 8 ≤ length b
+held-long b e h =
+    ⊎-elim (λ n. absurd (let z = subst (λ x. 0 < length x) n h in omega arith))
+    (λ f. let long = header-facts b (all-passed b f .0) .long in omega arith)
+    (cases-held b e)
+
+-- ---- reading at a place
+
+-- what `get` finds in a slice
+pub found-nth : (xs : List ℕ) (i : ℕ) (r : Option (RefT ℕ)) → Item xs i i r → mapped now r ≡ nth xs i
+found-nth xs i None h = sym (nth-past xs i (h .3))
+found-nth xs i (Some x) h = ap Some (h .3 .1 0) ∙ sym (nth-getD xs i 0 (h .3 .0))

@@ -3,5 +3,5 @@ mod book;
 mod layout;
 mod reader;
 
-//pub use book::Book;
-//pub use book::BookHost;
+pub use book::Book;
+pub use book::BookHost;

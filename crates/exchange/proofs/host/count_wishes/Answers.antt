@@ -12,14 +12,14 @@ use Rattle.exchange.proofs.host.count_wishes.Needs as need
 pub add-total : need.add-total
 add-total g c =
     let rows = g .H·Host .rows (c .args .host .now) in
-    let short = row-short rows (g .H·Host .sound (c .args .host .now)) (c .loop-u .u) in
-    let few = g .H·Host .sound (c .args .host .now) .few in
+    let short = row-short rows (g .H·Host·met .sound (c .args .host .now)) (c .loop-u .u) in
+    let few = g .H·Host·met .sound (c .args .host .now) .few in
     omega (arith, c .loop-u .inv .1)
 
 pub loop-u-again : need.loop-u-again
 loop-u-again g c =
     let rows = g .H·Host .rows (c .args .host .now) in
-    let short = row-short rows (g .H·Host .sound (c .args .host .now)) (c .loop-u .u) in
+    let short = row-short rows (g .H·Host·met .sound (c .args .host .now)) (c .loop-u .u) in
     let here : c .loop-u .u < length rows = omega arith in
     let more = sumBy-more length rows (c .loop-u .u) [] here in
     (omega (arith, c .loop-u .inv .0), omega (arith, c .loop-u .inv .1))

@@ -30,8 +30,7 @@ check-row-table-requires c κs =
 
 pub check-wishes-requires : need.check-wishes-requires
 check-wishes-requires c κs =
-    let b = c .args .bytes .now in
-    (
+    let b = c .args .bytes .now in (
       header-facts b (accepted (header-fault b) tt _ (c .in-Continue-check-header .ensures tt)),
       table-facts b (accepted (table-fault b) tt _ (c .in-Continue-check-row-table .ensures tt)),
     )
