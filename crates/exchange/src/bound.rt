@@ -2,7 +2,8 @@
 ghost use mathlib.Core.Path.{_≡_};
 ghost use Prim.Native.Nat.{_≤_};
 ghost use Rattle.std.specs.Results.{mapped};
-ghost use Rattle.exchange.specs.Bounds.{bound-check};
+ghost use Rattle.exchange.specs.Bounds.{bound-fault};
+ghost use Rattle.exchange.specs.Checks.{unless};
 use super::Fault;
 use super::Rule;
 
@@ -16,7 +17,7 @@ pub struct Bound {
 impl Bound {
     /// The bound of that number, or the refusal of it.
     pub fn check(number: usize) -> Result<Bound, Fault>
-        ensures { λ r. ⌜ mapped (λ b. b .number) (λ f. f) r ≡ bound-check number ⌝ }
+        ensures { λ r. ⌜ mapped (λ b. b .number) (λ f. f) r ≡ unless (bound-fault number) number ⌝ }
     {
         if number < 2 || number > 16 {
             return Err(Rule::WrongBound.at(number));

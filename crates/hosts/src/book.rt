@@ -4,8 +4,9 @@ ghost use mathlib.Core.Bool.{true};
 ghost use mathlib.Core.List.{[]};
 ghost use lib.ListN.{length};
 ghost use Rattle.std.specs.Of.Vec.{vec-items};
-ghost use Rattle.std.specs.Results.{Cases};
+ghost use Rattle.std.specs.Results.{Cases, mapped};
 ghost use Rattle.std.specs.declared.result.Result.the-variants.{Ok, Err};
+ghost use Rattle.std.specs.shelf.Maps.{nth};
 ghost use Rattle.exchange.specs.Rows.{row};
 ghost use Rattle.hosts.specs.Books.{book-rows, reading, may-hold};
 use super::layout::number_at;
@@ -33,13 +34,20 @@ impl Book {
     }
 
     /// Fills the book with the rows that the bytes lay out, or refuses them and leaves the book as it was. The bytes
-    /// are handed over, so that there is no want of memory and the answer is settled by the bytes alone.
+    /// are handed over, so that no memory is wanted and the answer is settled by the bytes alone.
     pub fn fill(&mut self, bytes: Vec<u8>) -> Result<(), Fault>
         ensures { λ r. ⌜ Cases (reading (vec-items bytes)) (λ rows. (r ≡ Ok tt) × (book-rows (vec-items (now (self .exit) .bytes)) ≡ rows)) (λ f. (r ≡ Err f) × (now (self .exit) ≡ now (self .entry))) ⌝ }
     {
-        check_book(bytes.as_slice())?;
-        self.bytes = bytes;
+        *self = Book::read(bytes)?;
         Ok(())
+    }
+
+    /// The book that the bytes are, or their first fault.
+    fn read(bytes: Vec<u8>) -> Result<Book, Fault>
+        ensures { λ r. ⌜ mapped (λ b. book-rows (vec-items (b .bytes))) (λ f. f) r ≡ reading (vec-items bytes) ⌝ }
+    {
+        check_book(bytes.as_slice())?;
+        Ok(Book { bytes })
     }
 }
 
@@ -67,6 +75,13 @@ fn row_of(bytes: &[u8], u: usize) -> &[u8]
     }
 }
 
+/// What stands at place `i` of a row.
+fn wish_at(row: &[u8], i: usize) -> Option<u8>
+    ensures { λ r. ⌜ r ≡ nth (now (row .entry)) i ⌝ }
+{
+    row.get(i).copied()
+}
+
 pub impl Host for Book as BookHost {
     ghost rows = { λ s. book-rows (vec-items (s .bytes)) };
 
@@ -79,6 +94,6 @@ pub impl Host for Book as BookHost {
     }
 
     fn wish(&self, u: usize, i: usize) -> Option<u8> {
-        row_of(self.bytes.as_slice(), u).get(i).copied()
+        wish_at(row_of(self.bytes.as_slice(), u), i)
     }
 }
