@@ -162,7 +162,7 @@ pub impl From<AllocError> for Fault as FaultFromAlloc {
     ghost converts = { λ _ r. r ≡ Memory };
 
     fn from(_e: AllocError) -> Fault {
-        Fault::Memory
+        Self::Memory
     }
 }
 
@@ -170,7 +170,7 @@ pub impl From<AllocError> for Fault as FaultFromAlloc {
 pub impl<T: Drop> From<Refused<T>> for Fault as FaultFromRefused {
     ghost converts = { λ _ r. r ≡ Memory };
 
-    fn from(_e: Refused<T>) -> Fault {
-        Fault::Memory
+    fn from(e: Refused<T>) -> Fault {
+        FaultFromAlloc::from(AllocError::from(e))
     }
 }
