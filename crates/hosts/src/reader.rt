@@ -5,7 +5,11 @@ ghost use lib.ListN.{length};
 ghost use Rattle.exchange.specs.Checks.{unless};
 ghost use Rattle.hosts.specs.Books.{boats, row-number-ok, header-fault, table-fault, row-fault, wishes-fault, book-fault};
 ghost use Rattle.hosts.specs.Layouts.{Header, Table};
+use super::layout::HEADER;
+use super::layout::MOST_BOATS;
+use super::layout::MOST_WISHES;
 use super::layout::number_at;
+use super::layout::row_at;
 use super::layout::row_number_at;
 use super::layout::row_slice;
 use super::layout::wishes_at;
@@ -26,21 +30,20 @@ fn check_header(bytes: &[u8]) -> Result<(), Fault>
     ensures { λ r. ⌜ r ≡ unless (header-fault (now (bytes .entry))) tt ⌝ }
 {
     let len = bytes.len();
-    if len < 8 {
+    if len < HEADER {
         return Err(Rule::BookTooShort.at(len));
     }
-    let boats = number_at(bytes, 0);
-    if boats > 256 {
+    if number_at(bytes, 0) > MOST_BOATS {
         return Err(Rule::BookTooLarge.at(0));
     }
     let wishes = number_at(bytes, 2);
-    if wishes > 16384 {
+    if wishes > MOST_WISHES {
         return Err(Rule::BookTooLarge.at(2));
     }
-    if number_at(bytes, 4) != 8 {
+    if number_at(bytes, 4) != HEADER {
         return Err(Rule::WrongOffset.at(4));
     }
-    let start = 8 + 2 * (boats + 1);
+    let start = wishes_at(bytes);
     if number_at(bytes, 6) != start {
         return Err(Rule::WrongOffset.at(6));
     }
@@ -57,7 +60,7 @@ fn check_row_table(bytes: &[u8]) -> Result<(), Fault>
 {
     for u in 0..number_at(bytes, 0) + 1 {
         if !row_number_stands(bytes, u) {
-            return Err(Rule::WrongRowNumber.at(8 + 2 * u));
+            return Err(Rule::WrongRowNumber.at(HEADER + 2 * u));
         }
     }
     Ok(())
@@ -90,8 +93,7 @@ fn check_wishes(bytes: &[u8]) -> Result<(), Fault>
 {
     let boats = number_at(bytes, 0);
     for u in 0..boats {
-        let at = wishes_at(bytes) + row_number_at(bytes, u);
-        if let Some(fault) = look_at_row(row_slice(bytes, u), u, boats, at) {
+        if let Some(fault) = look_at_row(row_slice(bytes, u), u, boats, row_at(bytes, u)) {
             return Err(fault);
         }
     }

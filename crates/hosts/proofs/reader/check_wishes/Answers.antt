@@ -33,14 +33,12 @@ pub returns-in-Some : need.returns-in-Some
 returns-in-Some c =
     let b = c .args .bytes .now in
     let here : c .loop-u .u < boats b = omega arith in
-    let at : c .wishes-at .result + c .row-number-at .result ≡ row-at b (c .loop-u .u) = omega arith in
-    let told = row-told b _ (c .loop-u .u) _ _ _ (c .number-at-boats .ensures) at (c .row-slice .ensures) (c .in-Some .ensures tt) in
+    let told = row-told b _ (c .loop-u .u) _ _ _ (c .number-at-boats .ensures) (c .row-at .ensures) (c .row-slice .ensures) (c .in-Some .ensures tt) in
     ap (λ o. unless o tt) (along-found _ _ _ _ (c .loop-u .inv) _ here told)
 
 pub loop-u-again : need.loop-u-again
 loop-u-again c =
     let b = c .args .bytes .now in
     let here : c .loop-u .u < boats b = omega arith in
-    let at : c .wishes-at .result + c .row-number-at .result ≡ row-at b (c .loop-u .u) = omega arith in
-    let told = row-told b _ (c .loop-u .u) _ _ _ (c .number-at-boats .ensures) at (c .row-slice .ensures) (c .in-rest .ensures tt) in
+    let told = row-told b _ (c .loop-u .u) _ _ _ (c .number-at-boats .ensures) (c .row-at .ensures) (c .row-slice .ensures) (c .in-rest .ensures tt) in
     along-more _ _ _ _ (c .loop-u .inv) here told
