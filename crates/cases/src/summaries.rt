@@ -1,9 +1,11 @@
 //! What the program tells of its input.
 use super::samples::P;
+use super::samples::complete;
 use exchange::Fault;
 use exchange::FaultDebug;
 use exchange::FaultPartialEq;
 use exchange::Rule;
+use listing::MOST_INPUT;
 use listing::Summary;
 use listing::SummaryDebug;
 use listing::SummaryDisplay;
@@ -54,6 +56,27 @@ fn a_wrong_bound_is_told_after_the_book(rt: LibcRuntime) -> Result<(), Fail> {
         check_eq(told, Err(Rule::WrongBound.at(usize::from(bound))))?;
         let told = summarize(rt.alloc(), input(rt.alloc(), bound, &P[0..28])?);
         check_eq(told, Err(Rule::WrongLength.at(28)))?;
+    }
+    Ok(())
+}
+
+#[test]
+fn bytes_past_the_most_do_not_count(rt: LibcRuntime) -> Result<(), Fail> {
+    let book = complete(rt.alloc())?;
+    let mut longest = input(rt.alloc(), 16, book.as_slice())?;
+    check_eq(longest.len() + 1, MOST_INPUT)?;
+    let told = summarize(rt.alloc(), input(rt.alloc(), 16, book.as_slice())?);
+    check_eq(
+        told,
+        Ok(Summary {
+            boats: 256,
+            wishes: 16384,
+        }),
+    )?;
+    for _ in 0..3 {
+        longest.push(7)?;
+        let told = summarize(rt.alloc(), longest.as_slice().to_vec(rt.alloc())?);
+        check_eq(told, Err(Rule::WrongLength.at(16907)))?;
     }
     Ok(())
 }

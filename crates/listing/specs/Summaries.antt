@@ -3,7 +3,7 @@
 use mathlib.Core.List.{List, [], _∷_, _++_}
 use Prim.Native.Nat.{ℕ}
 use lib.Chars.{codes}
-use lib.ListN.{length, getD, drop}
+use lib.ListN.{length, getD, take, drop}
 use Rattle.std.specs.Written.{decimal}
 use Rattle.std.specs.declared.result.Result.{Result}
 use Rattle.exchange.specs.declared.fault.Fault.{Fault}
@@ -13,12 +13,12 @@ use Rattle.exchange.specs.Rows.{Rows, wish-count}
 use Rattle.hosts.specs.Books.{book-rows, book-fault}
 use Rattle.listing.specs.declared.Summary.{Summary}
 
--- the first byte is the bound, 0 where there is none, and the rest is the book
-abbrev pub bound-of : List ℕ → ℕ
-bound-of input = getD input 0 0
+-- of all bytes only the first 16,908 count: the first of them is the bound, 0 where there is none, and the rest is the book
+unfoldable pub bound-of : List ℕ → ℕ
+bound-of input = getD (take 16908 input) 0 0
 
-abbrev pub book-of : List ℕ → List ℕ
-book-of input = drop 1 input
+unfoldable pub book-of : List ℕ → List ℕ
+book-of input = drop 1 (take 16908 input)
 
 abbrev pub summary-of : Rows → Summary
 summary-of rows = record { boats = length rows; wishes = wish-count rows }

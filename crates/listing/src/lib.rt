@@ -2,7 +2,7 @@
 ghost use mathlib.Core.Path.{_≡_};
 ghost use Rattle.std.specs.Of.Vec.{vec-items};
 ghost use Rattle.std.specs.declared.option.Option.the-variants.{Some};
-ghost use Rattle.listing.specs.Summaries.{answer-to, summary-text};
+ghost use Rattle.listing.specs.Summaries.{bound-of, book-of, answer-to, summary-text};
 use exchange::Bound;
 use exchange::Fault;
 use exchange::Host;
@@ -12,9 +12,9 @@ use hosts::BookHost;
 use std::alloc::Global;
 use std::fmt;
 
-/// How many bytes of input a program reads at most: the bound, the longest book, and one byte more, by which a book
-/// that is too long is known.
-pub const MOST_INPUT: u64 = 16908;
+/// How many bytes of input count: the bound, the longest book, and one byte more, by which a book that is too long is
+/// known.
+pub const MOST_INPUT: usize = 16908;
 
 /// How much there is to search.
 #[derive(Clone, Copy, PartialEq, Eq, Debug)]
@@ -33,11 +33,11 @@ pub impl fmt::Display for Summary as SummaryDisplay {
     }
 }
 
-/// The summary of the book behind the first byte of the input, which is the bound.
+/// The summary of the book that stands behind the first byte of the input, which is the bound.
 pub fn summarize(heap: Global, mut input: Vec<u8>) -> Result<Summary, Fault>
     ensures { λ r. ⌜ r ≡ answer-to (vec-items input) ⌝ }
 {
-    let number = if input.is_empty() { 0 } else { input.remove(0) };
+    let number = take_bound(&mut input);
     let mut book = Book::new(heap);
     book.fill(input)?;
     let _bound = Bound::check(usize::from(number))?;
@@ -45,4 +45,13 @@ pub fn summarize(heap: Global, mut input: Vec<u8>) -> Result<Summary, Fault>
         boats: book.boats(),
         wishes: count_wishes(&book),
     })
+}
+
+/// Takes the bound off the input, and leaves the book.
+fn take_bound(input: &mut Vec<u8>) -> u8
+    ensures value { λ r. ⌜ r ≡ bound-of (vec-items (now (input .entry))) ⌝ }
+    ensures rest { λ _. ⌜ vec-items (now (input .exit)) ≡ book-of (vec-items (now (input .entry))) ⌝ }
+{
+    input.truncate(MOST_INPUT);
+    if input.is_empty() { 0 } else { input.remove(0) }
 }

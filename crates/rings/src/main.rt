@@ -8,7 +8,7 @@ use std::io::Read;
 
 fn main(rt: LibcRuntime) -> io::Result<()> {
     let mut input = Vec::new(rt.alloc());
-    rt.stdin().take(MOST_INPUT).read_to_end(&mut input)?;
+    rt.stdin().take(MOST_INPUT as u64).read_to_end(&mut input)?;
     match summarize(rt.alloc(), input) {
         Ok(summary) => println!(rt, "{summary}"),
         Err(fault) => println!(rt, "{fault}"),
