@@ -1,5 +1,6 @@
 //! What a call refuses with: the rule that was broken and the place where it was.
 ghost use mathlib.Core.Path.{_≡_};
+ghost use Rattle.std.specs.Orderings.{Decides};
 ghost use Rattle.std.specs.declared.option.Option.the-variants.{Some};
 ghost use Rattle.exchange.specs.declared.fault.Fault.the-variants.{Memory};
 ghost use Rattle.exchange.specs.Faults.{number-of, layer-of, layer-name, fault-text};
@@ -46,7 +47,7 @@ pub impl fmt::Display for Layer as LayerDisplay {
 }
 
 /// A rule that an input or a state can break. What its place is stands with each.
-#[derive(Clone, Copy, PartialEq, Eq, Debug)]
+#[derive(Clone, Copy, Eq, Debug)]
 pub enum Rule {
     /// A book has a header of 8 bytes. Place: the length.
     BookTooShort = 1,
@@ -131,6 +132,15 @@ impl Rule {
         ensures { λ r. ⌜ r ≡ Fault.Refused self place ⌝ }
     {
         Fault::Refused { rule: self, place }
+    }
+}
+
+/// No two rules have one number.
+pub impl PartialEq<Rule> for Rule as RulePartialEq {
+    ghost equals = { λ x y r. Decides r (x ≡ y) };
+
+    fn eq(&self, other: &Rule) -> bool {
+        self.number() == other.number()
     }
 }
 
