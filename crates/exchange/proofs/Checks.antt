@@ -3,9 +3,8 @@
 use mathlib.Core.Path.{_≡_, refl, sym, ap, _∙_}
 use mathlib.Core.Bool.{Bool, true, false}
 use mathlib.Core.List.{List, [], _∷_, map}
-use mathlib.Core.Logic.{_⊎_, ⊎-elim}
+use mathlib.Core.Logic.{⊎-elim}
 use Prim.Native.Nat.{ℕ, zero, suc, _+_, _-_, _≤_, _<_}
-use native.Mathlib.Nat.{zero-add}
 use native.Mathlib.Omega.{arith}
 use Rattle.std.proofs.shelf.Tests.{cases-eq}
 use Rattle.std.specs.Iters.{counting}
@@ -53,16 +52,13 @@ module _ (t : ℕ → Option Fault) where
       let k : n - i ≡ suc (n - (i + 1)) = omega arith in
       ap (λ m. first-of (map t (counting i m))) k ∙ ap (λ z. first-of (z ∷ map t (counting (i + 1) (n - (i + 1))))) e
 
-  -- a loop that has come to place i with `total` still to tell: it goes on, it finds, or it is through
+  -- a loop that has come to place i with `total` still to tell: it goes on, or it finds
   module _ (i n : ℕ) (total : Option Fault) (inv : along t i n ≡ total) where
     pub along-more : i < n → t i ≡ None → along t (i + 1) n ≡ total
     along-more h e = sym (more i n None h e) ∙ inv
 
     pub along-found : (f : Fault) → i < n → t i ≡ Some f → Some f ≡ total
     along-found f h e = sym (more i n (Some f) h e) ∙ inv
-
-    pub along-all : n ≤ i → None ≡ total
-    along-all h = let k : n - i ≡ 0 = omega arith in sym (ap (λ m. first-of (map t (counting i m))) k) ∙ inv
 
   -- where none of the places tells anything, the one at j does not
   pub none-at : (i c j : ℕ) → first-of (map t (counting i c)) ≡ None → i ≤ j → j < i + c → t j ≡ None

@@ -7,8 +7,10 @@ ghost use Rattle.exchange.specs.Rows.{Rows, row, WellFormed, wish-count};
 /// At most 256 boats, numbered from 0, with a row for each: the boats that its club would take, the best liked first.
 /// A question alters nothing, and asked again it is answered alike: each answer is an equation with the rows.
 pub trait Host {
+    // What a host means: all that the questions tell.
     ghost rows: { Self → Rows };
 
+    // What each host owes.
     law sound: { (x : Self) → WellFormed (rows x) };
 
     /// How many boats there are.

@@ -1,10 +1,10 @@
 -- What bytes that passed the checks show: each row as long as the table says, and rows that are well formed.
 -- Assumes nothing.
 use mathlib.Core.Path.{_≡_, refl, sym, ap, subst, _∙_}
-use mathlib.Core.Bool.{Bool, true, false, not, _&&_, _||_}
-use mathlib.Core.List.{List, [], _∷_, map}
+use mathlib.Core.Bool.{true, false, not, _||_}
+use mathlib.Core.List.{List, [], _∷_}
 use mathlib.Core.Logic.{_⊎_, inl, inr, _≢_, ⊎-elim}
-use Prim.Native.Nat.{ℕ, zero, suc, _+_, _-_, _*_, _≤_, _<_}
+use Prim.Native.Nat.{ℕ, suc, _+_, _-_, _≤_, _<_}
 use native.Mathlib.Omega.{arith}
 use lib.Dec.{ltb, leb, eqb}
 use lib.ListN.{length, getD, take, drop}
@@ -12,7 +12,6 @@ use Rattle.std.proofs.shelf.Counted.{length-map-counting, getD-map-counting}
 use Rattle.std.proofs.shelf.Lists.{getD-past, length-drop, length-take-le, nil-from-length}
 use Rattle.std.proofs.shelf.Maps.{nth-getD, nth-past}
 use Rattle.std.proofs.shelf.Tests.{true≢false, not-true, not-false, or-cases, or-right, ltb-true, ltb-false, leb-true, eqb-true, eqb-false, and-parts, cases-lt}
-use Rattle.std.specs.Iters.{counting}
 use Rattle.std.specs.Options.{isSome, mapped}
 use Rattle.std.specs.Places.{Item}
 use Rattle.std.specs.shelf.Maps.{nth}
@@ -21,10 +20,10 @@ use Rattle.std.specs.declared.option.Option.{Option}
 use Rattle.std.specs.declared.option.Option.the-variants.{Some, None}
 use Rattle.exchange.specs.declared.fault.Fault.{Fault}
 use Rattle.exchange.specs.Checks.{refuse-if, first-of}
-use Rattle.exchange.specs.Rows.{Rows, row, _∈_, Fresh, WellFormed, has}
+use Rattle.exchange.specs.Rows.{row, _∈_, Fresh, WellFormed, has}
 use Rattle.exchange.proofs.Checks.{kept, first-one, first-none, none-at}
 use Rattle.exchange.proofs.Rows.{place-of, fresh-from-places}
-use Rattle.hosts.specs.Books.{number, boats, wishes, table-offset, wishes-offset, row-number, wishes-at, row-at, book-row, book-rows, header-fault, previous, row-number-ok, row-number-fault, table-fault, wish-fault, row-fault, wishes-fault, book-fault, may-hold}
+use Rattle.hosts.specs.Books.{boats, wishes, table-offset, wishes-offset, row-number, wishes-at, row-at, book-row, book-rows, header-fault, previous, row-number-ok, row-number-fault, table-fault, wish-fault, row-fault, wishes-fault, book-fault, may-hold}
 use Rattle.hosts.specs.Layouts.{Header, Table}
 
 -- ---- what the checks of the header and of the table leave

@@ -1,12 +1,11 @@
-use Prim.Native.Nat.{_+_, _*_, _<_, _≤_}
-use mathlib.Core.Path.{_≡_, sym, ap, _∙_}
+use Prim.Native.Nat.{_+_, _*_, _<_}
+use mathlib.Core.Path.{sym, ap, _∙_}
 use mathlib.Core.Bool.{not}
 use native.Mathlib.Omega.{arith}
-use Rattle.std.specs.declared.option.Option.the-variants.{Some, None}
 use Rattle.std.specs.declared.result.Result.the-variants.{Err}
 use Rattle.exchange.specs.declared.fault.Rule.the-variants.{WrongRowNumber}
 use Rattle.exchange.specs.Checks.{refuse-if, unless}
-use Rattle.exchange.proofs.Checks.{along-start, along-more, along-found, along-all}
+use Rattle.exchange.proofs.Checks.{along-start, along-more, along-found}
 use Rattle.hosts.specs.Books.{boats, row-number-fault, table-fault}
 use Rattle.hosts.proofs.reader.check_row_table.Needs as need
 

@@ -1,14 +1,13 @@
-use Prim.Native.Nat.{ℕ, _+_, _-_, _<_, _≤_}
+use Prim.Native.Nat.{ℕ, _+_, _<_}
 use mathlib.Core.Path.{_≡_, sym, ap, _∙_}
 use mathlib.Core.List.{List}
 use native.Mathlib.Omega.{arith}
 use lib.ListN.{length}
 use Rattle.std.specs.declared.option.Option.{Option}
-use Rattle.std.specs.declared.option.Option.the-variants.{Some, None}
 use Rattle.exchange.specs.declared.fault.Fault.{Fault}
 use Rattle.exchange.specs.Checks.{unless}
 use Rattle.exchange.proofs.Checks.{along-start, along-more, along-found}
-use Rattle.hosts.specs.Books.{boats, row-number, wishes-at, row-at, book-row, row-fault, wishes-fault}
+use Rattle.hosts.specs.Books.{boats, row-at, book-row, row-fault, wishes-fault}
 use Rattle.hosts.proofs.Books.{row-length}
 use Rattle.hosts.proofs.reader.check_wishes.Needs as need
 

@@ -1,5 +1,4 @@
-use mathlib.Core.Path.{_≡_, sym, ap, subst, _∙_}
-use mathlib.Core.Bool.{true}
+use mathlib.Core.Path.{ap, _∙_}
 use Rattle.hosts.specs.Books.{book-rows, may-hold}
 use Rattle.hosts.proofs.Books.{held-nothing, no-rows}
 use Rattle.hosts.proofs.book.Book.new.Needs as need
