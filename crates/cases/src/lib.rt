@@ -9,6 +9,4 @@ mod samples;
 #[cfg(test)]
 mod summaries;
 
-pub use samples::P;
 pub use samples::changed;
-pub use samples::complete;

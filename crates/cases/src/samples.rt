@@ -7,37 +7,9 @@ use std::alloc::AllocError;
 use std::alloc::Global;
 
 /// The worked book: rows 3 4; 3 4; 0 1; 0 1; 2.
-pub const P: [u8; 29] = [
-    0,
-    5,
-    0,
-    9,
-    0,
-    8,
-    0,
-    20,
-    0,
-    0,
-    0,
-    2,
-    0,
-    4,
-    0,
-    6,
-    0,
-    8,
-    0,
-    9,
-    3,
-    4,
-    3,
-    4,
-    0,
-    1,
-    0,
-    1,
-    2,
-];
+#[cfg(test)]
+pub const P: [u8; 29] =
+    *b"\x00\x05\x00\x09\x00\x08\x00\x14\x00\x00\x00\x02\x00\x04\x00\x06\x00\x08\x00\x09\x03\x04\x03\x04\x00\x01\x00\x01\x02";
 
 /// The bytes with another byte at one place, if there is such a place.
 pub fn changed(heap: Global, bytes: &[u8], at: usize, byte: u8) -> Result<Vec<u8>, AllocError>
@@ -52,6 +24,7 @@ pub fn changed(heap: Global, bytes: &[u8], at: usize, byte: u8) -> Result<Vec<u8
 }
 
 /// A book of 256 boats, in which each wishes for the 64 that follow it.
+#[cfg(test)]
 pub fn complete(heap: Global) -> Result<Vec<u8>, AllocError> {
     let mut v = [1, 0, 64, 0, 0, 8, 2, 10].to_vec(heap)?;
     for u in 0..257u16 {
