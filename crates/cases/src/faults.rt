@@ -8,6 +8,7 @@ use exchange::FaultPartialEq;
 use exchange::Rule;
 use std::alloc::AllocError;
 use std::alloc::Global;
+use std::alloc::Refused;
 use std::test::*;
 
 const LINES: [(Rule, &str); 23] = [
@@ -63,6 +64,12 @@ fn want_of_memory_has_a_line_of_its_own(rt: LibcRuntime) -> Result<(), Fail> {
 fn too_much(heap: Global) -> Result<Vec<u8>, Fault> {
     let v = Vec::with_capacity(heap, usize::MAX)?;
     Ok(v)
+}
+
+#[test]
+fn a_value_that_found_no_memory_is_let_go() -> Result<(), Fail> {
+    let fault: Fault = Refused { value: 7u8 }.into();
+    check_eq(fault, Fault::Memory)
 }
 
 #[test]
