@@ -1,4 +1,6 @@
 //! Tables of cases, run as tests.
+#![tactic(auto)]
+
 #[cfg(test)]
 mod books;
 #[cfg(test)]

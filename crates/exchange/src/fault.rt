@@ -1,10 +1,10 @@
 //! What a call refuses with: the rule that was broken and the place where it was.
-ghost use Rattle.std.specs.Prelude.{◌≡◌, Some, Decides};
+ghost use Rattle.std.specs.Prelude.{◌≡◌, ◌==◌, Some, Decides};
 ghost use Rattle.exchange.specs.declared.fault.Fault.TheVariants.{Memory};
 ghost use Rattle.exchange.specs.Faults.{number_of, layer_of, layer_name, fault_text};
 ghost use Rattle.std.specs.Cmp.Rules.{comparing};
 ghost use Rattle.std.proofs.Common.{rules};
-ghost use Rattle.std.specs.Cmp as Keys;
+ghost use Rattle.std.specs.Ordering.{on};
 
 use std::alloc::{AllocError, AllocFailed};
 use std::fmt;
@@ -138,11 +138,14 @@ impl Rule {
 
 /// No two rules have one number.
 impl PartialEq for Rule {
-    ghost equals = { λ x y r. Decides r (x ≡ y) };
+    ghost eq = { on number_of ◌==◌ };
 
-    ghost laws = { Keys.partial_equiv_from_equiv (Prim.search (comparing, rules)) };
+    ghost laws = { Prim.search (comparing, rules) };
 
-    fn eq(&self, other: &Rule) -> bool {
+    fn eq(&self, other: &Rule) -> bool
+        ensures by_number { result ≡ (number_of self.now == number_of other.now) }
+        ensures same { Decides result (self.now ≡ other.now) }
+    {
         self.number() == other.number()
     }
 }

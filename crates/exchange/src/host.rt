@@ -27,7 +27,7 @@ pub trait Host {
 
 /// How many wishes there are in all rows together.
 pub fn count_wishes<H: Host>(host: &H) -> usize
-    ensures { result ≡ wish_count (rows host.now) }
+    ensures { result ≡ wish_count (H.rows host.now) }
 {
     let mut total = 0;
     for u in 0..host.boats() {

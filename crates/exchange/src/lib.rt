@@ -1,4 +1,6 @@
 //! The words that every layer shares: faults, the bound on a ring's length, and what a host is.
+#![tactic(auto)]
+
 mod bound;
 mod fault;
 mod host;

@@ -1,4 +1,6 @@
 //! The hosts: what shows boats with their rows of wishes.
+#![tactic(auto)]
+
 mod book;
 mod layout;
 mod reader;

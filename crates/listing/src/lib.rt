@@ -1,4 +1,6 @@
 //! What the programs do with their input, and the lines that they print.
+#![tactic(auto)]
+
 ghost use Rattle.std.specs.Prelude.{◌≡◌, Some};
 ghost use Rattle.listing.specs.Summaries.{bound_of, book_of, answer_to, summary_text};
 

@@ -1,4 +1,6 @@
 //! Reads a bound and a book from standard input, and prints what there is to search, or the fault.
+#![tactic(auto)]
+
 use listing::{MOST_INPUT, summarize};
 use std::io;
 use std::io::Read;

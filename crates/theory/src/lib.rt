@@ -2,6 +2,8 @@
 //!
 //! The definitions stand in `specs/`, and what is claimed of them in `specs/Theorems.antt`. Each function here is one
 //! claim: it does nothing when it is called, but it is accepted only with a proof of its contract.
+#![tactic(auto)]
+
 ghost use Rattle.theory.specs.Theorems.{OneFullList, EachOnce, Complete, Midway, Sound, Settled, Stepwise, Ends, Releases};
 ghost use Rattle.theory.specs.Worked.{Worked};
 

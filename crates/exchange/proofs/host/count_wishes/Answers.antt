@@ -5,8 +5,8 @@ use Rattle.exchange.specs.Rows.{wish_count}
 use Rattle.exchange.proofs.Rows.{row_short}
 use Rattle.exchange.proofs.host.count_wishes.Goals as goal
 
-pub overflow-add-total : goal.overflow-add-total
-overflow-add-total g c =
+pub overflow_add-total : goal.overflow_add-total
+overflow_add-total g c =
     let rows = g.H.Host.rows c.args.host.now in
     let short = row_short rows (g.met.H.Host.sound c.args.host.now) c.loop-u.u in
     let few = (g.met.H.Host.sound c.args.host.now).few in
