@@ -1,3 +1,3 @@
 pub mod Books
 pub mod Layouts
-pub mod BooksLemmas
+pub mod Sound

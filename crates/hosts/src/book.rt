@@ -4,7 +4,7 @@ ghost use Rattle.std.specs.Result.{result_map_both};
 ghost use Rattle.std.specs.List.{slice_get};
 ghost use Rattle.exchange.specs.Rows.{row};
 ghost use Rattle.hosts.specs.Books.{book_rows, reading, may_hold};
-ghost use Rattle.hosts.specs.BooksLemmas.{held_rows};
+ghost use Rattle.hosts.specs.Sound.{held_rows};
 
 use super::layout::{number_at, row_slice};
 use super::reader::check_book;

@@ -1,5 +1,5 @@
 use Rattle.std.proofs.Common.{◌∙◌}
-use Rattle.hosts.specs.BooksLemmas.{found_nth}
+use Rattle.hosts.proofs.Books.{found_nth}
 use Rattle.hosts.proofs.book.wish_at.Goals as goal
 
 pub returns : goal.returns
