@@ -4,7 +4,7 @@ use Rattle.std.proofs.Common.{◌≡◌, ℕ, zero, suc, ◌+◌, ◌-◌, ◌<�
 use Rattle.std.proofs.lemmas.List.{drop_more, drop_all}
 use Rattle.std.proofs.lemmas.Bool.{ltb-true, lt-ltb, and_parts, and_from, not-true, not_from_false, both_ways}
 use Rattle.exchange.specs.Rows.{Rows, row, ◌∈◌, has}
-use Rattle.theory.specs.Search.{Frame, boats, wish, moved, entered}
+use Rattle.theory.specs.Search.{Frame, boats, wish, moved}
 use Rattle.theory.proofs.Lists.{has_not, has_false}
 use Rattle.theory.proofs.Remaining.{choose, part, onward, from_roots, on_frames}
 

@@ -1,6 +1,6 @@
 -- The rule of the search, one step at a time.
 -- Assumes nothing.
-use Rattle.std.specs.Prelude.{ℕ, zero, suc, ◌+◌, min, Bool, true, false, not, ◌&&◌, List, [], ◌∷◌, reverse, length, set, replicate, ◌==◌, nat_le, nat_lt, slice_index, slice_index_or, slice_set}
+use Rattle.std.specs.Prelude.{ℕ, zero, suc, ◌+◌, min, Bool, true, false, not, ◌&&◌, List, [], ◌∷◌, reverse, length, replicate, ◌==◌, nat_le, nat_lt, slice_index, slice_index_or, slice_set}
 use Rattle.exchange.specs.Rows.{Rows, row, has}
 
 -- THE STATE
