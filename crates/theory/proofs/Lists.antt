@@ -1,7 +1,7 @@
 -- Lists: what stands in them, lists joined end to end, sorted lists.
 -- Assumes nothing.
 use Rattle.std.proofs.Common.{◌≡◌, ℕ, zero, suc, ◌<◌, true, false, eqb, ◌⊎◌, List, [], ◌∷◌, ◌++◌, length, get_or, set, replicate, sym, refl, subst, inl, inr, ⊎_elim, arith}
-use Rattle.std.specs.List.{AllByRecursion as All}
+use Rattle.std.specs.List.{AllByRecursion}
 use Rattle.std.proofs.lemmas.Bool.{eqb-true, eq-eqb, or_cases, or_left, or_right, cases_Bool, both_ways}
 use Rattle.exchange.specs.Rows.{◌∈◌, has, Fresh}
 use Rattle.theory.specs.Rings.{Earlier, Sorted}
@@ -46,16 +46,16 @@ has_false xs x e h = both_ways (has xs x) e (has_from xs x h)
 pub has_not : (xs : List ℕ) (x : ℕ) → ¬ (x ∈ xs) → has xs x ≡ false
 has_not xs x n = ⊎_elim (λ e. absurd (n (has_true xs x e))) (λ e. e) (cases_Bool (has xs x))
 
-pub all_in : {A : Type 0} (P : A → Type 0) (xs : List A) (x : A) → All P xs → x ∈ xs → P x
+pub all_in : {A : Type 0} (P : A → Type 0) (xs : List A) (x : A) → AllByRecursion P xs → x ∈ xs → P x
 all_in P [] x a h = absurd h
 all_in P (y ∷ ys) x a (inl e) = subst P (sym e) a.0
 all_in P (y ∷ ys) x a (inr h) = all_in P ys x a.1 h
 
-all_from : {A : Type 0} (P : A → Type 0) (xs : List A) → ((x : A) → x ∈ xs → P x) → All P xs
+all_from : {A : Type 0} (P : A → Type 0) (xs : List A) → ((x : A) → x ∈ xs → P x) → AllByRecursion P xs
 all_from P [] h = tt
 all_from P (y ∷ ys) h = (h y (inl refl), all_from P ys (λ x k. h x (inr k)))
 
-all_append : {A : Type 0} (P : A → Type 0) (xs ys : List A) → All P xs → All P ys → All P (xs ++ ys)
+all_append : {A : Type 0} (P : A → Type 0) (xs ys : List A) → AllByRecursion P xs → AllByRecursion P ys → AllByRecursion P (xs ++ ys)
 all_append P [] ys a b = b
 all_append P (x ∷ xs) ys a b = (a.0, all_append P xs ys a.1 b)
 

@@ -2,7 +2,7 @@
 -- Assumes nothing.
 use Rattle.std.proofs.Common.{◌≡◌, ℕ, zero, suc, ◌+◌, ◌-◌, ◌<◌, ◌≤◌, Bool, true, false, not, ◌&&◌, eqb, ltb, ◌⊎◌, List, [], ◌∷◌, ◌++◌, reverse, length, sym, refl, ap, ◌∙◌, subst, inl, inr, ⊎_elim, append_assoc, append-nil, arith}
 use mathlib.Core.List.{reverse-cons}
-use Rattle.std.specs.List.{AllByRecursion as All}
+use Rattle.std.specs.List.{AllByRecursion}
 use Rattle.std.proofs.lemmas.Bool.{eqb-true, eq-eqb, ne_eqb, lt-ltb, ltb-true, and_parts, and_from, not-true, not_from_false, both_ways, cases_eq}
 use Rattle.exchange.specs.Rows.{Rows, row, ◌∈◌, has, Fresh, WellFormed}
 use Rattle.theory.specs.Rings.{Earlier, Sorted, first, next, Leads, RingWithin, Before, FullList}
@@ -135,7 +135,7 @@ module _ (rows : Rows) (s : ℕ) where
   root_sorted j = sorted_row j s [] [] refl (part_sorted j s [] [] refl)
 
   -- a way is what a ring is, but for its first boat
-  way_above : (j : ℕ) (path t : List ℕ) → Way j path t → All (λ w. s < w) t
+  way_above : (j : ℕ) (path t : List ℕ) → Way j path t → AllByRecursion (λ w. s < w) t
   way_above j path [] h = tt
   way_above zero path (w ∷ t) h = absurd h
   way_above (suc j) path (w ∷ t) h = (h.0, way_above j (w ∷ path) t h.3)
@@ -159,7 +159,7 @@ module _ (rows : Rows) (s : ℕ) where
   leads_next v [] l = l
   leads_next v (w ∷ t) l = l.0
 
-  way_from : (j v : ℕ) (path t : List ℕ) → All (λ w. s < w) t → Fresh path t → Leads rows s v t → length t ≤ j → Way j path t
+  way_from : (j v : ℕ) (path t : List ℕ) → AllByRecursion (λ w. s < w) t → Fresh path t → Leads rows s v t → length t ≤ j → Way j path t
   way_from j v path [] a f l n = tt
   way_from zero v path (w ∷ t) a f l n = absurd (omega arith)
   way_from (suc j) v path (w ∷ t) a f l n =

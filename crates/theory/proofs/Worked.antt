@@ -1,7 +1,7 @@
 -- What the test of the worked rows tells.
 -- Assumes nothing.
 use Rattle.std.proofs.Common.{◌≡◌, ℕ, zero, suc, Bool, true, false, ◌&&◌, eqb, leb, List, [], ◌∷◌, length, take, refl, subst}
-use Rattle.std.specs.List.{AllByRecursion as All}
+use Rattle.std.specs.List.{AllByRecursion}
 use Rattle.std.proofs.lemmas.Bool.{eqb-true, leb-true, and_parts, both_ways}
 use Rattle.exchange.specs.Rows.{Rows}
 use Rattle.theory.specs.Search.{State, Outcome, Ended, Silent, Found, opening, step}
@@ -63,7 +63,7 @@ case_holds c e =
           (rings_of c.lines)).1 (handed c.rows c.bound shows);
     }
 
-table_holds : (cs : List Case) → table_test cs ≡ true → All Holds cs
+table_holds : (cs : List Case) → table_test cs ≡ true → AllByRecursion Holds cs
 table_holds [] e = tt
 table_holds (c ∷ cs) e = let p = and_parts (case_test c) (table_test cs) e in (case_holds c p.0, table_holds cs p.1)
 

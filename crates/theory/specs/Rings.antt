@@ -1,13 +1,13 @@
 -- Rings of boats, their order, and the full list of them.
 -- Assumes nothing.
 use Rattle.std.specs.Prelude.{◌≡◌, ℕ, ◌<◌, ◌≤◌, ◌⊎◌, List, [], ◌∷◌, ◌++◌, length, slice_index}
-use Rattle.std.specs.List.{AllByRecursion as All}
+use Rattle.std.specs.List.{AllByRecursion}
 use Rattle.exchange.specs.Rows.{Rows, row, ◌∈◌, Fresh}
 
 -- each later boat is above the first
 abbrev pub LeastFirst : List ℕ → Type 0
 LeastFirst [] = Unit {0}
-LeastFirst (s ∷ t) = All (λ w. s < w) t
+LeastFirst (s ∷ t) = AllByRecursion (λ w. s < w) t
 
 -- a ring: 2 to 16 boats, no boat twice, the least boat first
 pub record IsRing (r : List ℕ) : Type 0 where
@@ -63,7 +63,7 @@ Before rows r q = (first r < first q) ⊎ Parts rows r q
 -- each element stands in the relation R to each later one
 abbrev pub Sorted : {A : Type 0} → (A → A → Type 0) → List A → Type 0
 Sorted R [] = Unit {0}
-Sorted R (x ∷ xs) = All (R x) xs × Sorted R xs
+Sorted R (x ∷ xs) = AllByRecursion (R x) xs × Sorted R xs
 
 -- THE FULL LIST: it holds the rings of the rows of at most k boats, each of them and nothing else, in their order
 pub record FullList (rows : Rows) (k : ℕ) (l : List (List ℕ)) : Type 0 where

@@ -1,7 +1,7 @@
 -- Worked rows: what the rule shows on them, ring by ring.
 -- Assumes nothing.
 use Rattle.std.specs.Prelude.{◌≡◌, ℕ, List, [], ◌∷◌, length, take}
-use Rattle.std.specs.List.{AllByRecursion as All}
+use Rattle.std.specs.List.{AllByRecursion}
 use Rattle.exchange.specs.Rows.{Rows}
 use Rattle.theory.specs.Rings.{FullList}
 use Rattle.theory.specs.Search.{State, Ended, Silent, Found, opening, step, free, all_free, no_waiters}
@@ -183,5 +183,5 @@ capped =
 
 -- every case holds, and entries stand at 4,294,967,295 once they are there
 pub record Worked : Type 0 where
-  pub table : All Holds cases
+  pub table : AllByRecursion Holds cases
   pub cap : Shows capped.rows capped.bound (counted_to 4294967293) capped.lines
