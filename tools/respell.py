@@ -3,8 +3,9 @@
 
 usage: python3 tools/respell.py      once, at the top, after /opt/rattle/port/port.py
 
-It goes by whole names, in the proofs and specs of every crate and in the clauses of their code; comments, strings, functions of
-src/ and must-fail edits stay as they are. It stops where a new name stands in a file already, since the two would fall together.
+It goes by whole names, in the proofs, the specs and the code of every crate: a name with a dash stands in clauses alone there.
+Comments and must-fail edits stay as they are. It stops where a new name stands in a file of proofs or specs already, since the
+two would fall together; in the code a definition may have the name of a function, which no clause can speak of.
 """
 
 import pathlib

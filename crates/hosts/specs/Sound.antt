@@ -1,7 +1,7 @@
 -- That the rows of accepted bytes are well formed: the proof of the law that a book owes as a host. It stands here because an
--- `impl` may cite nothing of `proofs/`; it defines nothing that a contract speaks of, and need not be read.
+-- `impl` may cite nothing of its crate's `proofs/`; it defines nothing that a contract speaks of, and need not be read.
 -- Assumes nothing.
-use Rattle.std.specs.Prelude.{◌≡◌, ℕ, ◌+◌, ◌<◌, ◌≤◌, true, false, not, ◌≢◌, ◌⊎◌, List, [], length, take, is_some, Some, None, Option, ◌==◌, nat_lt, slice_index, slice_index_or, refl}
+use Rattle.std.specs.Prelude.{◌≡◌, ℕ, ◌+◌, ◌<◌, ◌≤◌, true, false, not, ◌≢◌, ◌⊎◌, List, [], length, take, is_some, Some, None, Option, ◌==◌, nat_lt, slice_index, refl}
 use Rattle.std.proofs.Common.{sym, subst, inl, inr, ⊎_elim, arith}
 use Rattle.std.proofs.lemmas.List.FromFn.{length-map-range_with_len, get_or-map-range_with_len}
 use Rattle.std.proofs.lemmas.List.{get_or_past, nil_from_length}
@@ -47,8 +47,8 @@ row_past b u h = get_or_past (book_rows b) u [] (let e = rows-length b in omega 
 
 -- the wish at place j of row u keeps its rules
 pub record Kept (n u : ℕ) (cut : List ℕ) (j : ℕ) : Type 0 where
-  pub below : slice_index_or cut j 0 < n
-  pub other : slice_index_or cut j 0 ≢ u
+  pub below : slice_index cut j < n
+  pub other : slice_index cut j ≢ u
   pub once : has (take j cut) (slice_index cut j) ≡ false
 
 wish_kept : (b : List ℕ) → wishes_fault b ≡ None → (u : ℕ) → u < boats b → (j : ℕ) → j < length (book_row b u) → Kept (boats b) u (book_row b u) j
