@@ -1,12 +1,10 @@
 //! What a call refuses with: the rule that was broken and the place where it was.
-ghost use Rattle.std.specs.Prelude.{◌≡◌, ◌==◌, Some, Decides};
+ghost use Rattle.std.specs.Prelude.{◌≡◌, Some};
 ghost use Rattle.exchange.specs.declared.fault.Fault.TheVariants.{Memory};
 ghost use Rattle.exchange.specs.Faults.{number_of, layer_of, layer_name, fault_text};
-ghost use Rattle.std.specs.Cmp.Rules.{comparing};
-ghost use Rattle.std.proofs.Common.{rules};
-ghost use Rattle.std.specs.Ordering.{on};
 
 use std::alloc::{AllocError, AllocFailed};
+use std::error::Error;
 use std::fmt;
 
 /// The part of the program that a rule belongs to.
@@ -42,13 +40,12 @@ impl fmt::Display for Layer {
     ghost output = { λ l. Some (layer_name l) };
 
     fn fmt<W: fmt::Write>(&self, f: &mut fmt::Formatter<W>) -> fmt::Result {
-        let name = self.name();
-        write!(f, "{name}")
+        f.write_str(self.name())
     }
 }
 
 /// A rule that an input or a state can break. What its place is stands with each.
-#[derive(Clone, Copy, Eq, Debug)]
+#[derive(Clone, Copy, PartialEq, Eq, Hash, Debug)]
 pub enum Rule {
     /// A book has a header of 8 bytes. Place: the length.
     BookTooShort = 1,
@@ -101,7 +98,10 @@ pub enum Rule {
 impl Rule {
     /// The number by which the rule is known.
     pub fn number(self) -> u8
-        ensures { result ≡ number_of self }
+        ensures number { result ≡ number_of self }
+
+        // No other rule has this number.
+        ensures unique { (other : Rule) → number_of other ≡ result → other ≡ self }
     {
         self as u8
     }
@@ -136,20 +136,6 @@ impl Rule {
     }
 }
 
-/// No two rules have one number.
-impl PartialEq for Rule {
-    ghost eq = { on number_of ◌==◌ };
-
-    ghost laws = { Prim.search (comparing, rules) };
-
-    fn eq(&self, other: &Rule) -> bool
-        ensures by_number { result ≡ (number_of self.now == number_of other.now) }
-        ensures same { Decides result (self.now ≡ other.now) }
-    {
-        self.number() == other.number()
-    }
-}
-
 /// Why a call gave no result.
 #[derive(Clone, Copy, PartialEq, Eq, Debug)]
 pub enum Fault {
@@ -173,6 +159,8 @@ impl fmt::Display for Fault {
         }
     }
 }
+
+impl Error for Fault {}
 
 impl From<AllocError> for Fault {
     ghost from_gives = { λ _ r. r ≡ Memory };
