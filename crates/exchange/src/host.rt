@@ -29,9 +29,5 @@ pub trait Host {
 pub fn count_wishes<H: Host>(host: &H) -> usize
     ensures { result ≡ wish_count (H.rows host.now) }
 {
-    let mut total = 0;
-    for u in 0..host.boats() {
-        total += host.row_len(u);
-    }
-    total
+    (0..host.boats()).map(|u| host.row_len(u)).sum()
 }

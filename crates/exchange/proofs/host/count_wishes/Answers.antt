@@ -1,27 +1,25 @@
-use Rattle.std.proofs.Common.{◌<◌, ◌≤◌, [], length, ap, ◌∙◌, arith}
-use Rattle.std.proofs.lemmas.List.{take_all}
-use Rattle.std.proofs.lemmas.List.Sums.{sum_by_more}
-use Rattle.exchange.specs.Rows.{wish_count}
-use Rattle.exchange.proofs.Rows.{row_short}
+use Rattle.std.proofs.Common.{rules, ℕ, ◌∙◌, length, refl, arith}
+use Rattle.std.proofs.lemmas.Iterator.{YieldsList-from_range, YieldsList-from_map}
+use Rattle.std.proofs.lemmas.Iterator.Consumers.{YieldsList-at, sum_by_from_yields_List, fits_by_from_yields_list}
+use Rattle.exchange.specs.Rows.{row}
+use Rattle.exchange.proofs.Rows.{wish_count_by_boat, wish_count_fits}
 use Rattle.exchange.proofs.host.count_wishes.Goals as goal
 
-pub overflow_add-total : goal.overflow_add-total
-overflow_add-total g c =
+pub sum-requires-clause-fits : goal.sum-requires-clause-fits
+sum-requires-clause-fits g c =
     let rows = g.H.Host.rows c.args.host.now in
-    let short = row_short rows (g.met.H.Host.sound c.args.host.now) c.loop-u.u in
-    let few = (g.met.H.Host.sound c.args.host.now).few in
-    omega (arith, c.loop-u.invariant.1)
-
-pub loop-u-preserved : goal.loop-u-preserved
-loop-u-preserved g c =
-    let rows = g.H.Host.rows c.args.host.now in
-    let short = row_short rows (g.met.H.Host.sound c.args.host.now) c.loop-u.u in
-    let here : c.loop-u.u < length rows = omega arith in
-    let more = sum_by_more length rows c.loop-u.u [] here in
-    (omega (arith, c.loop-u.invariant.0), omega (arith, c.loop-u.invariant.1))
+    let len = λ (u : ℕ). length (row rows u) in
+    let total = wish_count_by_boat rows in
+    let fits = wish_count_fits rows (g.met.H.Host.sound c.args.host.now) in
+    let map = c.map.ensures in
+    let boats = YieldsList-at map.source (YieldsList-from_range 0 c.boats.result (length rows) refl (omega arith)) in
+    fits_by_from_yields_list len _ _ _ (YieldsList-from_map _ len boats map.closure (λ x r q k. search rules)) (omega arith)
 
 pub returns : goal.returns
 returns g c =
     let rows = g.H.Host.rows c.args.host.now in
-    let end : length rows ≤ c.loop-u.u = omega arith in
-    c.loop-u.invariant.0 ∙ ap wish_count (take_all c.loop-u.u rows end)
+    let len = λ (u : ℕ). length (row rows u) in
+    let map = c.map.ensures in
+    let boats = YieldsList-at map.source (YieldsList-from_range 0 c.boats.result (length rows) refl (omega arith)) in
+    sum_by_from_yields_List len _ _ _ c.sum.ensures.ran (YieldsList-from_map _ len boats map.closure (λ x r q k. search rules))
+    ∙ wish_count_by_boat rows
