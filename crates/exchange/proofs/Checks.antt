@@ -1,10 +1,10 @@
--- What follows from a row of checks, and a loop's step through one.
+-- What follows from a row of checks, one after the other.
 -- Assumes nothing.
-use Rattle.std.proofs.Common.{◌≡◌, ℕ, zero, suc, ◌+◌, ◌-◌, ◌<◌, ◌≤◌, Bool, false, List, [], ◌∷◌, map, Some, None, Ok, Err, Option, arith}
+use Rattle.std.proofs.Common.{◌≡◌, ℕ, zero, suc, ◌+◌, ◌<◌, ◌≤◌, Bool, false, List, [], ◌∷◌, map, Some, None, Option, refl, arith}
 use Rattle.std.specs.List.{range_with_len}
 use Rattle.exchange.specs.declared.fault.Fault.{Fault}
 use Rattle.exchange.specs.declared.fault.Rule.{Rule}
-use Rattle.exchange.specs.Checks.{refuse_if, first_of, unless}
+use Rattle.exchange.specs.Checks.{refuse_if, first_of}
 
 -- a check that tells nothing has its test false
 pub kept : (b : Bool) (rule : Rule) (place : ℕ) → refuse_if b rule place ≡ None → b ≡ false
@@ -18,31 +18,33 @@ first_none o checks e = grind arith
 pub first_one : (o : Option Fault) → first_of (o ∷ []) ≡ o
 first_one o = grind arith
 
--- an accepted input has no fault
-pub accepted : {X : Type 0} (o : Option Fault) (x y : X) → Ok y ≡ unless o x → o ≡ None
-accepted o x y e = grind arith
-
--- and a refused one has that fault
-pub refused : {X : Type 0} (o : Option Fault) (x : X) (f : Fault) → Err f ≡ unless o x → o ≡ Some f
-refused o x f e = grind arith
-
--- the checks of the places i to before n
-abbrev pub along : (ℕ → Option Fault) → ℕ → ℕ → Option Fault
-along t i n = first_of (map t (range_with_len i (n - i)))
+-- ---- checks along the places of a list
 
 module _ (t : ℕ → Option Fault) where
-  pub along_start : (n : ℕ) → along t 0 n ≡ first_of (map t (range_with_len 0 n))
-  along_start n = grind arith
-
-  -- a loop that has come to place i with `total` still to tell: it goes on, or it finds
-  module _ (i n : ℕ) (total : Option Fault) (inv : along t i n ≡ total) where
-    pub along_more : i < n → t i ≡ None → along t (i + 1) n ≡ total
-    along_more h e = let k : n - i ≡ suc (n - (i + 1)) = omega arith in grind (arith, k)
-
-    pub along_found : (f : Fault) → i < n → t i ≡ Some f → Some f ≡ total
-    along_found f h e = let k : n - i ≡ suc (n - (i + 1)) = omega arith in grind (arith, k)
-
-  -- where none of the places tells anything, the one at j does not
-  pub none_at : (i c j : ℕ) → first_of (map t (range_with_len i c)) ≡ None → i ≤ j → j < i + c → t j ≡ None
+  -- where none of the places has a fault, the one at j has none
+  pub none_at : (i n j : ℕ) → first_of (map t (range_with_len i n)) ≡ None → i ≤ j → j < i + n → t j ≡ None
   none_at i zero j e l h = absurd (omega arith)
-  none_at i (suc c) j e l h = grind (arith, first_none (t i) (map t (range_with_len (i + 1) c)), none_at (i + 1) c j)
+  none_at i (suc n) j e l h = grind (arith, first_none (t i) (map t (range_with_len (i + 1) n)), none_at (i + 1) n j)
+
+  none_from : (i n : ℕ) → ((k : ℕ) → i ≤ k → k < i + n → t k ≡ None) → first_of (map t (range_with_len i n)) ≡ None
+  none_from i zero h = refl
+  none_from i (suc n) h =
+      let here = h i (omega arith) (omega arith) in
+      let rest = none_from (i + 1) n (λ k l m. h k (omega arith) (omega arith)) in
+      grind (arith, here, rest)
+
+  found_from : (i n u : ℕ) (f : Fault) → i ≤ u → u < i + n → ((k : ℕ) → i ≤ k → k < u → t k ≡ None) → t u ≡ Some f
+      → first_of (map t (range_with_len i n)) ≡ Some f
+  found_from i zero u f l m h e = absurd (omega arith)
+  found_from i (suc n) u f l m h e =
+      let rest = λ (q : i < u). found_from (i + 1) n u f (omega arith) (omega arith) (λ k a b. h k (omega arith) b) e in
+      grind (arith, h i (omega arith), rest)
+
+  -- where none of n places has a fault, there is none
+  pub none_first : (n : ℕ) → ((k : ℕ) → k < n → t k ≡ None) → first_of (map t (range_with_len 0 n)) ≡ None
+  none_first n h = none_from 0 n (λ k l m. h k (omega arith))
+
+  -- the first of the faults is the one before which there is none
+  pub found_first : (n u : ℕ) (f : Fault) → u < n → ((k : ℕ) → k < u → t k ≡ None) → t u ≡ Some f
+      → first_of (map t (range_with_len 0 n)) ≡ Some f
+  found_first n u f l h e = found_from 0 n u f (omega arith) (omega arith) (λ k a b. h k b) e

@@ -3,7 +3,6 @@
 -- Assumes nothing.
 use Rattle.std.proofs.Common.{◌≡◌, ℕ, suc, ◌+◌, ◌<◌, ◌≤◌, true, false, eqb, List, [], ◌∷◌, length, map, sum_by, get_or, take, sym, refl, inl, inr, suc-le-suc, arith}
 use Rattle.std.proofs.lemmas.Bool.Decides.{nat_tests}
-use Rattle.std.proofs.lemmas.Grind.{common_steps}
 use Rattle.std.proofs.lemmas.List.Elements.{All-from_get_or}
 use Rattle.std.proofs.lemmas.List.Folds.{fold-map, list_any_at, list_any_more}
 use Rattle.std.proofs.lemmas.List.FromFn.{fill_by_all}
@@ -17,13 +16,13 @@ has_any : (xs : List ℕ) (w : ℕ) → has xs w ≡ list_any (eqb w) xs
 has_any [] w = refl
 has_any (x ∷ xs) w = grind (arith, has_any xs w)
 
--- the test along a list, one element more and at an element that stands in front
+-- the test along a list, one element more, and at an element
 pub has_more : (xs : List ℕ) (i w : ℕ) → i < length xs → has (take i xs) w ≡ false → (get_or xs i 0 ≡ w → ⊥)
     → has (take (i + 1) xs) w ≡ false
 has_more xs i w h e n = grind (arith, nat_tests, has_any, list_any_more (eqb w) xs i 0)
 
-pub has_here : (xs : List ℕ) (i j : ℕ) → i < length xs → i < j → has (take j xs) (get_or xs i 0) ≡ true
-has_here xs i j h l = grind (arith, common_steps, nat_tests, has_any, list_any_at (eqb (get_or xs i 0)) (take j xs) i 0)
+pub has_at : (xs : List ℕ) (i w : ℕ) → i < length xs → get_or xs i 0 ≡ w → has xs w ≡ true
+has_at xs i w h e = grind (arith, nat_tests, has_any, list_any_at (eqb w) xs i 0)
 
 -- what stands in a list has a place there
 pub place_of : (w : ℕ) (xs : List ℕ) → w ∈ xs → (j : ℕ) × (j < length xs) × (get_or xs j 0 ≡ w)

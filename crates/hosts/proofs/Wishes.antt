@@ -1,35 +1,37 @@
--- The look along a row that has come to place j: what each way out of its turn tells.
+-- The look along a row: what each way out of it tells, and how it goes on.
 -- Assumes nothing.
-use Rattle.std.proofs.Common.{◌≡◌, ℕ, ◌+◌, ◌<◌, ◌≤◌, true, false, List, length, get_or, take, Some, None, arith}
+use Rattle.std.proofs.Common.{◌≡◌, ◌≢◌, ℕ, ◌+◌, ◌<◌, ◌≤◌, true, false, List, length, get_or, take, Some, None, arith}
 use Rattle.std.proofs.lemmas.Bool.Decides.{nat_tests}
 use Rattle.exchange.specs.declared.fault.Fault.TheVariants.{Refused}
 use Rattle.exchange.specs.declared.fault.Rule.TheVariants.{UnknownBoat, OwnBoat, RepeatedWish}
 use Rattle.exchange.specs.Rows.{has}
-use Rattle.exchange.proofs.Checks.{along, along_more, along_found}
+use Rattle.std.proofs.lemmas.List.{take_all}
+use Rattle.exchange.proofs.Rows.{has_more}
+use Rattle.exchange.proofs.Checks.{none_first, found_first}
 use Rattle.hosts.specs.Books.{wish_fault, row_fault}
 
-module _ (n u at : ℕ) (row : List ℕ) (j w : ℕ) (is : w ≡ get_or row j 0) where
-  unknown : n ≤ w → wish_fault n u at row j ≡ Some (Refused UnknownBoat (at + j))
-  unknown h = grind (arith, nat_tests)
+module _ (n u at : ℕ) (row : List ℕ) where
+  pub no_fault : (j : ℕ) → get_or row j 0 < n → get_or row j 0 ≢ u → has (take j row) (get_or row j 0) ≡ false → wish_fault n u at row j ≡ None
+  unfolding wish_fault
+  no_fault j h e r = grind (arith, nat_tests)
 
-  own : w < n → w ≡ u → wish_fault n u at row j ≡ Some (Refused OwnBoat (at + j))
-  own h e = grind (arith, nat_tests)
+  -- a row of wishes without a fault has none
+  pub none_in_row : ((k : ℕ) → k < length row → wish_fault n u at row k ≡ None) → row_fault n u at row ≡ None
+  unfolding row_fault
+  none_in_row h = none_first (wish_fault n u at row) (length row) h
 
-  repeated : w < n → (w ≡ u → ⊥) → has (take j row) (get_or row j 0) ≡ true → wish_fault n u at row j ≡ Some (Refused RepeatedWish (at + j))
-  repeated h e r = grind (arith, nat_tests)
+  -- where the wishes before place j have no fault, the row's is that of the wish at j
+  module _ (j : ℕ) (before : (k : ℕ) → k < j → wish_fault n u at row k ≡ None) (here : j < length row) where
+    pub unknown : n ≤ get_or row j 0 → row_fault n u at row ≡ Some (Refused UnknownBoat (at + j))
+    unfolding row_fault wish_fault
+    unknown h = found_first (wish_fault n u at row) (length row) j _ here before (grind (arith, nat_tests))
 
-  good : w < n → (w ≡ u → ⊥) → has (take j row) (get_or row j 0) ≡ false → wish_fault n u at row j ≡ None
-  good h e r = grind (arith, nat_tests)
+    pub own : get_or row j 0 < n → get_or row j 0 ≡ u → row_fault n u at row ≡ Some (Refused OwnBoat (at + j))
+    unfolding row_fault wish_fault
+    own h e = found_first (wish_fault n u at row) (length row) j _ here before (grind (arith, nat_tests))
 
-  module _ (inv : along (wish_fault n u at row) j (length row) ≡ row_fault n u at row) (here : j < length row) where
-    pub finds_unknown : n ≤ w → Some (Refused UnknownBoat (at + j)) ≡ row_fault n u at row
-    finds_unknown h = along_found (wish_fault n u at row) j (length row) _ inv _ here (unknown h)
+    pub repeated : get_or row j 0 < n → get_or row j 0 ≢ u → has (take j row) (get_or row j 0) ≡ true → row_fault n u at row ≡ Some (Refused RepeatedWish (at + j))
+    unfolding row_fault wish_fault
+    repeated h e r = found_first (wish_fault n u at row) (length row) j _ here before (grind (arith, nat_tests))
 
-    pub finds_own : w < n → w ≡ u → Some (Refused OwnBoat (at + j)) ≡ row_fault n u at row
-    finds_own h e = along_found (wish_fault n u at row) j (length row) _ inv _ here (own h e)
-
-    pub finds_repeated : w < n → (w ≡ u → ⊥) → has (take j row) (get_or row j 0) ≡ true → Some (Refused RepeatedWish (at + j)) ≡ row_fault n u at row
-    finds_repeated h e r = along_found (wish_fault n u at row) j (length row) _ inv _ here (repeated h e r)
-
-    pub goes_on : w < n → (w ≡ u → ⊥) → has (take j row) (get_or row j 0) ≡ false → along (wish_fault n u at row) (j + 1) (length row) ≡ row_fault n u at row
-    goes_on h e r = along_more (wish_fault n u at row) j (length row) _ inv here (good h e r)
+pub ruleset look = (has_more, take_all, no_fault, none_in_row, unknown, own, repeated)

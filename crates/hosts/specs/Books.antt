@@ -1,6 +1,6 @@
 -- The book: rows laid out as bytes, and what its reader says of any bytes.
 -- Assumes nothing.
-use Rattle.std.specs.Prelude.{ℕ, zero, suc, ◌+◌, ◌-◌, ◌*◌, Bool, not, ◌&&◌, ◌||◌, List, [], ◌∷◌, map, length, take, drop, is_some, Option, Result, ◌==◌, nat_le, nat_lt, slice_index}
+use Rattle.std.specs.Prelude.{ℕ, zero, suc, ◌+◌, ◌-◌, ◌*◌, Bool, not, ◌&&◌, ◌||◌, List, [], ◌∷◌, map, length, take, drop, Option, Result, ◌==◌, nat_le, nat_lt, slice_index}
 use Rattle.std.specs.List.{range_with_len}
 use Rattle.exchange.specs.declared.fault.Fault.{Fault}
 use Rattle.exchange.specs.declared.fault.Rule.TheVariants.{BookTooShort, BookTooLarge, WrongOffset, WrongLength, WrongRowNumber, UnknownBoat, OwnBoat, RepeatedWish}
@@ -45,7 +45,7 @@ book_rows b = map (book_row b) (range_with_len 0 (boats b))
 
 -- ---- the checks, in their order
 
-abbrev pub header_fault : List ℕ → Option Fault
+unfoldable pub header_fault : List ℕ → Option Fault
 header_fault b =
     first_of (refuse_if (nat_lt (length b) 8) BookTooShort (length b)
     ∷ refuse_if (nat_lt 256 (boats b)) BookTooLarge 0
@@ -68,7 +68,7 @@ row_number_ok b u =
     && (nat_le (row_number b u) (wishes b)
     && (not (u == boats b) || row_number b u == wishes b)))
 
-abbrev pub row_number_fault : List ℕ → ℕ → Option Fault
+unfoldable pub row_number_fault : List ℕ → ℕ → Option Fault
 row_number_fault b u = refuse_if (not (row_number_ok b u)) WrongRowNumber (8 + 2 * u)
 
 unfoldable pub table_fault : List ℕ → Option Fault
@@ -76,7 +76,7 @@ table_fault b = first_of (map (row_number_fault b) (range_with_len 0 (boats b + 
 
 -- the wish at place j of the row of boat u, of n boats, where the row begins at byte `at`:
 -- it is for one of the boats, not for u itself, and stands not earlier in the row
-abbrev pub wish_fault : ℕ → ℕ → ℕ → List ℕ → ℕ → Option Fault
+unfoldable pub wish_fault : ℕ → ℕ → ℕ → List ℕ → ℕ → Option Fault
 wish_fault n u at row j =
     first_of (refuse_if (not (nat_lt (slice_index row j) n)) UnknownBoat (at + j)
     ∷ refuse_if (slice_index row j == u) OwnBoat (at + j)
@@ -86,8 +86,11 @@ wish_fault n u at row j =
 unfoldable pub row_fault : ℕ → ℕ → ℕ → List ℕ → Option Fault
 row_fault n u at row = first_of (map (wish_fault n u at row) (range_with_len 0 (length row)))
 
+abbrev pub boat_fault : List ℕ → ℕ → Option Fault
+boat_fault b u = row_fault (boats b) u (row_at b u) (book_row b u)
+
 unfoldable pub wishes_fault : List ℕ → Option Fault
-wishes_fault b = first_of (map (λ u. row_fault (boats b) u (row_at b u) (book_row b u)) (range_with_len 0 (boats b)))
+wishes_fault b = first_of (map (boat_fault b) (range_with_len 0 (boats b)))
 
 unfoldable pub book_fault : List ℕ → Option Fault
 book_fault b = first_of (header_fault b ∷ table_fault b ∷ wishes_fault b ∷ [])
@@ -96,7 +99,3 @@ book_fault b = first_of (header_fault b ∷ table_fault b ∷ wishes_fault b ∷
 
 abbrev pub reading : List ℕ → Result Rows Fault
 reading b = unless (book_fault b) (book_rows b)
-
--- what a book may hold: no bytes yet, or bytes with no fault
-unfoldable pub may_hold : List ℕ → Bool
-may_hold b = length b == 0 || not (is_some (book_fault b))

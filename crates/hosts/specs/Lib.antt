@@ -1,3 +1,4 @@
 pub mod Books
 pub mod Layouts
+pub mod Shown
 pub mod Sound

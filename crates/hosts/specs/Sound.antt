@@ -1,22 +1,26 @@
 -- That the rows of accepted bytes are well formed: the proof of the law that a book owes as a host. It stands here because an
 -- `impl` may cite nothing of its crate's `proofs/`; it defines nothing that a contract speaks of, and need not be read.
 -- Assumes nothing.
-use Rattle.std.specs.Prelude.{◌≡◌, ℕ, ◌+◌, ◌<◌, ◌≤◌, true, false, not, ◌≢◌, ◌⊎◌, List, [], length, take, is_some, Some, None, Option, ◌==◌, nat_lt, slice_index, refl}
-use Rattle.std.proofs.Common.{sym, subst, inl, inr, ⊎_elim, arith}
+use Rattle.std.specs.Prelude.{◌≡◌, ℕ, ◌+◌, ◌<◌, ◌≤◌, false, not, ◌≢◌, List, [], length, take, Some, None, Option, ◌==◌, nat_lt, slice_index, refl}
+use Rattle.std.proofs.Common.{sym, subst, ⊎_elim, arith}
 use Rattle.std.proofs.lemmas.List.FromFn.{length-map-range_with_len, get_or-map-range_with_len}
-use Rattle.std.proofs.lemmas.List.{get_or_past, nil_from_length}
-use Rattle.std.proofs.lemmas.Bool.{true≢false, not-true, not-false, or_cases, ltb-true, ltb-false, eqb-true, eqb-false, cases_lt}
-use Rattle.exchange.specs.declared.fault.Fault.{Fault}
+use Rattle.std.proofs.lemmas.List.{get_or_past}
+use Rattle.std.proofs.lemmas.Bool.{not-false, ltb-true, ltb-false, eqb-true, eqb-false, cases_lt}
 use Rattle.exchange.specs.Checks.{refuse_if}
 use Rattle.exchange.specs.Rows.{row, ◌∈◌, Fresh, WellFormed, has}
 use Rattle.exchange.proofs.Checks.{kept, first_none, none_at}
 use Rattle.exchange.proofs.Rows.{place_of, fresh_from_places}
-use Rattle.hosts.specs.Books.{boats, wishes, table_offset, wishes_offset, wishes_at, row_at, book_row, book_rows, header_fault, table_fault, wish_fault, row_fault, wishes_fault, book_fault, may_hold}
-use Rattle.hosts.specs.Layouts.{Header}
+use Rattle.hosts.specs.Books.{boats, wishes, table_offset, wishes_offset, wishes_at, row_at, book_row, book_rows, header_fault, table_fault, wish_fault, row_fault, wishes_fault, book_fault}
+use Rattle.std.specs.Option.{option_map_or, ForSome}
+use Rattle.hosts.specs.declared.book.Book.{Book}
+use Rattle.hosts.specs.declared.table.Table.{Table}
+use Rattle.hosts.specs.Layouts.{HeaderStands}
+use Rattle.hosts.specs.Shown.{rows_of}
 
 -- ---- what the checks of the header leave
 
-pub header_facts : (b : List ℕ) → header_fault b ≡ None → Header b
+pub header_facts : (b : List ℕ) → header_fault b ≡ None → HeaderStands b
+unfolding header_fault
 header_facts b e =
     let short = first_none (refuse_if (nat_lt (length b) 8) _ _) _ e in
     let many = first_none (refuse_if (nat_lt 256 (boats b)) _ _) _ short.1 in
@@ -32,16 +36,18 @@ header_facts b e =
 
 -- ---- the rows that such bytes show
 
-pub rows-length : (b : List ℕ) → length (book_rows b) ≡ boats b
+pub length-book_rows : (b : List ℕ) → length (book_rows b) ≡ boats b
 unfolding book_rows
-rows-length b = length-map-range_with_len (book_row b) 0 (boats b)
+length-book_rows b = length-map-range_with_len (book_row b) 0 (boats b)
 
 pub row_is : (b : List ℕ) (u : ℕ) → u < boats b → row (book_rows b) u ≡ book_row b u
 unfolding book_rows
 row_is b u h = get_or-map-range_with_len (book_row b) 0 (boats b) u u [] h (omega arith)
 
 pub row_past : (b : List ℕ) (u : ℕ) → boats b ≤ u → row (book_rows b) u ≡ []
-row_past b u h = get_or_past (book_rows b) u [] (let e = rows-length b in omega arith)
+row_past b u h = get_or_past (book_rows b) u [] (let e = length-book_rows b in omega arith)
+
+pub ruleset rows_shown = (length-book_rows, row_is, row_past)
 
 -- ---- the rows of accepted bytes are well formed
 
@@ -52,7 +58,7 @@ pub record Kept (n u : ℕ) (cut : List ℕ) (j : ℕ) : Type 0 where
   pub once : has (take j cut) (slice_index cut j) ≡ false
 
 wish_kept : (b : List ℕ) → wishes_fault b ≡ None → (u : ℕ) → u < boats b → (j : ℕ) → j < length (book_row b u) → Kept (boats b) u (book_row b u) j
-unfolding wishes_fault row_fault
+unfolding wishes_fault row_fault wish_fault
 wish_kept b e u h j l =
     let cut = book_row b u in
     let row = none_at (λ v. row_fault (boats b) v (row_at b v) (book_row b v)) 0 (boats b) u e (omega arith) (omega arith) in
@@ -88,24 +94,13 @@ row_once b e u =
 
 pub well_formed : (b : List ℕ) → boats b ≤ 256 → wishes_fault b ≡ None → WellFormed (book_rows b)
 well_formed b few e = record {
-  few = let n = rows-length b in omega arith;
-  below = λ u w h. let n = rows-length b in let k = (wish_of b e u w h).0 in omega arith;
+  few = let n = length-book_rows b in omega arith;
+  below = λ u w h. let n = length-book_rows b in let k = (wish_of b e u w h).0 in omega arith;
   other = λ u w h. (wish_of b e u w h).1;
   once = row_once b e;
 }
 
--- ---- what a book may hold
-
--- no bytes at all, or bytes that passed every check
-pub cases_held : (b : List ℕ) → may_hold b ≡ true → (b ≡ []) ⊎ (book_fault b ≡ None)
-unfolding may_hold
-cases_held b e =
-    ⊎_elim (λ h. inl (nil_from_length b (eqb-true _ _ h))) (λ h. inr (none (book_fault b) (not-true _ h)))
-    (or_cases (length b == 0) (not (is_some (book_fault b))) e)
-  where
-    none : (o : Option Fault) → is_some o ≡ false → o ≡ None
-    none None h = refl
-    none (Some f) h = absurd (true≢false h)
+-- ---- what an accepted book shows
 
 pub all_passed : (b : List ℕ) → book_fault b ≡ None → (header_fault b ≡ None) × (table_fault b ≡ None) × (wishes_fault b ≡ None)
 unfolding book_fault
@@ -114,12 +109,15 @@ all_passed b e =
     let table = first_none (table_fault b) _ header.1 in
     (header.0, table.0, (first_none (wishes_fault b) _ table.1).0)
 
-no_wishes : wishes_fault [] ≡ None
-unfolding wishes_fault
-no_wishes = refl
+pub accepted_rows : (b : List ℕ) → book_fault b ≡ None → WellFormed (book_rows b)
+accepted_rows b e = let p = all_passed b e in well_formed b (header_facts b p.0).few p.2
 
-pub held_rows : (b : List ℕ) → may_hold b ≡ true → WellFormed (book_rows b)
-held_rows b e =
-    ⊎_elim (λ h. subst (λ x. WellFormed (book_rows x)) (sym h) (well_formed [] (omega arith) no_wishes))
-    (λ h. let p = all_passed b h in well_formed b (header_facts b p.0).few p.2)
-    (cases_held b e)
+none_rows : WellFormed []
+none_rows = record { few = omega arith; below = λ u w h. absurd h; other = λ u w h. absurd h; once = λ u. tt }
+
+pub rows_sound : (book : Book) → WellFormed (rows_of book)
+rows_sound book = shown book.table book.accepted
+  where
+    shown : (table : Option Table) → ForSome table (λ t. book_fault t.layout.bytes.items ≡ None) → WellFormed (option_map_or (λ t. book_rows t.layout.bytes.items) table [])
+    shown None h = none_rows
+    shown (Some t) h = accepted_rows t.layout.bytes.items (h t refl)

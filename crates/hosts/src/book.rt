@@ -1,96 +1,94 @@
 //! The book: a host that holds its rows as bytes.
-ghost use Rattle.std.specs.Prelude.{◌≡◌, true, [], length, Ok, Err, MatchResult};
-ghost use Rattle.std.specs.Result.{result_map_both};
-ghost use Rattle.std.specs.List.{slice_get};
+ghost use Rattle.std.specs.Prelude.{◌≡◌, [], None, OnOk, OnErr};
+ghost use Rattle.std.specs.Option.{ForSome};
+ghost use Rattle.exchange.specs.Checks.{unless};
 ghost use Rattle.exchange.specs.Rows.{row};
-ghost use Rattle.hosts.specs.Books.{book_rows, reading, may_hold};
-ghost use Rattle.hosts.specs.Sound.{held_rows};
+ghost use Rattle.hosts.specs.Books.{book_rows, book_fault};
 
-use super::layout::{number_at, row_slice};
-use super::reader::check_book;
+use super::layout::Layout;
+use super::table::Table;
 use exchange::{Fault, Host};
-use std::alloc::Global;
 
 /// Rows in the bytes of the layout. A book holds only bytes that its reader accepted, or none yet.
 #[derive(Drop)]
 pub struct Book {
-    bytes: Vec<u8>,
-    ghost held: { may_hold bytes.items ≡ true },
+    table: Option<Table>,
+    ghost accepted: { ForSome table (λ t. book_fault t.layout.bytes.items ≡ None) },
 }
 
 impl Book {
+    ghost use Rattle.hosts.specs.Shown.{rows_of};
+
     /// A book with no boats.
-    pub fn new(heap: Global) -> Book
-        ensures { book_rows result.bytes.items ≡ [] }
+    pub fn new() -> Book
+        ensures { rows_of result ≡ [] }
     {
-        Book {
-            bytes: Vec::new(heap),
-        }
+        Book { table: None }
     }
 
     /// Fills the book with the rows that the bytes lay out, or refuses them and leaves the book as it was. The bytes
     /// are handed over, so that no memory is wanted and the answer is settled by the bytes alone.
     pub fn fill(&mut self, bytes: Vec<u8>) -> Result<(), Fault>
-        ensures { MatchResult (reading bytes.items) (λ rows. (result ≡ Ok tt) × (book_rows self.new.bytes.items ≡ rows)) (λ f. (result ≡ Err f) × (self.new ≡ self.old)) }
+        ensures answer { result ≡ unless (book_fault bytes.items) tt }
+        ensures ok { OnOk result (rows_of self.new ≡ book_rows bytes.items) }
+        ensures err { OnErr result (self.new ≡ self.old) }
     {
-        *self = Book::read(bytes)?;
+        *self = Book::try_from(bytes)?;
         Ok(())
     }
 
-    /// The book that the bytes are, or their first fault.
-    fn read(bytes: Vec<u8>) -> Result<Book, Fault>
-        ensures { result_map_both (λ b. book_rows b.bytes.items) (λ f. f) result ≡ reading bytes.items }
+    /// The wishes of boat `u`: none for what is no boat.
+    fn row(&self, u: usize) -> &[u8]
+        ensures { result.now ≡ row (rows_of self.now) u }
     {
-        check_book(bytes.as_slice())?;
-        Ok(Book { bytes })
+        match &self.table {
+            Some(table) => table.row(u),
+            None => &[],
+        }
     }
 }
 
-/// How many boats the bytes of a book show.
-fn boat_count(bytes: &[u8]) -> usize
-    requires { may_hold bytes.now ≡ true }
-    ensures { result ≡ length (book_rows bytes.now) }
-{
-    if bytes.is_empty() {
-        0
-    } else {
-        number_at(bytes, 0)
-    }
-}
+/// The book that the bytes are, or their first fault.
+impl TryFrom<Vec<u8>> for Book {
+    type Error = Fault;
 
-/// The wishes of boat `u`: none for what is no boat.
-fn row_of(bytes: &[u8], u: usize) -> &[u8]
-    requires { may_hold bytes.now ≡ true }
-    ensures { result.now ≡ row (book_rows bytes.now) u }
-{
-    if u < boat_count(bytes) {
-        row_slice(bytes, u)
-    } else {
-        &bytes[0..0]
-    }
-}
+    ghost use Rattle.std.specs.Prelude.{◌≡◌};
+    ghost use Rattle.std.specs.Result.{result_map_both};
+    ghost use Rattle.hosts.specs.Books.{reading};
+    ghost use Rattle.hosts.specs.Shown.{rows_of};
 
-/// What stands at place `i` of a row.
-fn wish_at(row: &[u8], i: usize) -> Option<u8>
-    ensures { result ≡ slice_get row.now i }
-{
-    row.get(i).copied()
+    ghost try_from_gives = { λ bytes r. result_map_both rows_of (λ f. f) r ≡ reading bytes.items };
+
+    #[tactic(auto, using(crate::proofs::Books::checks_in_order))]
+    fn try_from(bytes: Vec<u8>) -> Result<Book, Fault> {
+        let layout = Layout::try_from(bytes)?;
+        let table = Table::try_from(layout)?;
+        table.check_wishes()?;
+        Ok(Book { table: Some(table) })
+    }
 }
 
 impl Host for Book {
-    ghost rows = { λ s. book_rows s.bytes.items };
+    ghost use Rattle.hosts.specs.Shown.{rows_of};
+    ghost use Rattle.hosts.specs.Sound.{rows_sound};
 
-    ghost sound = { λ x. held_rows x.bytes.items x.held };
+    ghost rows = { rows_of };
 
+    ghost sound = { rows_sound };
+
+    #[tactic(auto, using(crate::specs::Sound::rows_shown))]
     fn boats(&self) -> usize {
-        boat_count(self.bytes.as_slice())
+        match &self.table {
+            Some(table) => table.boats(),
+            None => 0,
+        }
     }
 
     fn row_len(&self, u: usize) -> usize {
-        row_of(self.bytes.as_slice(), u).len()
+        self.row(u).len()
     }
 
     fn wish(&self, u: usize, i: usize) -> Option<u8> {
-        wish_at(row_of(self.bytes.as_slice(), u), i)
+        self.row(u).get(i).copied()
     }
 }

@@ -1,55 +1,149 @@
-//! Where things stand in the bytes of a book.
-ghost use Rattle.std.specs.Prelude.{◌≡◌, ◌+◌, ◌*◌, ◌<◌, ◌≤◌, length};
-ghost use Rattle.hosts.specs.Books.{number, boats, row_number, wishes_at, row_at, book_row};
-ghost use Rattle.hosts.specs.Layouts.{Header, Table};
+//! The layout of a book: bytes that are as long as their header says.
+ghost use Rattle.std.specs.Prelude.{◌≡◌, ◌+◌, ◌*◌, ◌<◌, ◌≤◌, length, IfOk};
+ghost use Rattle.exchange.specs.Checks.{Tells};
+ghost use Rattle.hosts.specs.Books.{number, boats, wishes, row_number, row_number_ok, row_number_fault, wishes_at, header_fault};
+ghost use Rattle.hosts.specs.Layouts.{HeaderStands};
+
+use exchange::{Fault, Rule};
 
 /// How many bytes the header has.
-pub(crate) const HEADER: usize = 8;
+const HEADER: usize = 8;
 
 /// How many boats a book has at most.
-pub(crate) const MOST_BOATS: usize = 256;
+const MOST_BOATS: usize = 256;
 
 /// How many wishes a book has at most.
-pub(crate) const MOST_WISHES: usize = 16384;
+const MOST_WISHES: usize = 16384;
+
+/// Bytes whose header stands.
+#[derive(Drop)]
+pub(crate) struct Layout {
+    bytes: Vec<u8>,
+    ghost header: { HeaderStands bytes.items },
+}
+
+impl TryFrom<Vec<u8>> for Layout {
+    type Error = Fault;
+
+    ghost try_from_gives = { λ bytes r. Tells r (header_fault bytes.items) × IfOk r (λ layout. layout.bytes ≡ bytes) };
+
+    #[tactic(auto, using(crate::specs::Sound::header_facts))]
+    fn try_from(bytes: Vec<u8>) -> Result<Layout, Fault> {
+        check_header(bytes.as_slice())?;
+        Ok(Layout { bytes })
+    }
+}
+
+impl Layout {
+    pub(crate) fn bytes(&self) -> &[u8]
+        ensures { result.now ≡ self.now.bytes.items }
+    {
+        self.bytes.as_slice()
+    }
+
+    pub(crate) fn boats(&self) -> usize
+        ensures { result ≡ boats self.now.bytes.items }
+    {
+        number_at(self.bytes(), 0)
+    }
+
+    fn wishes(&self) -> usize
+        ensures { result ≡ wishes self.now.bytes.items }
+    {
+        number_at(self.bytes(), 2)
+    }
+
+    /// Where the wishes begin.
+    pub(crate) fn wishes_at(&self) -> usize
+        ensures { result ≡ wishes_at self.now.bytes.items }
+    {
+        table_end(self.boats())
+    }
+
+    /// Row number `u` of the row table.
+    pub(crate) fn row_number(&self, u: usize) -> usize
+        requires { u ≤ boats self.now.bytes.items }
+        ensures { result ≡ row_number self.now.bytes.items u }
+    {
+        number_at(self.bytes(), HEADER + 2 * u)
+    }
+
+    /// The fault of row number `u`.
+    #[tactic(auto, unfolding(crate::specs::Books::row_number_fault))]
+    pub(crate) fn check_row_number(&self, u: usize) -> Result<(), Fault>
+        requires { u ≤ boats self.now.bytes.items }
+        ensures { Tells result (row_number_fault self.now.bytes.items u) }
+    {
+        if self.row_number_stands(u) {
+            Ok(())
+        } else {
+            Err(Rule::WrongRowNumber.at(HEADER + 2 * u))
+        }
+    }
+
+    /// Whether row number `u` is 0 at the first, not below the one before it, not above the number of wishes, and that
+    /// number at the last.
+    fn row_number_stands(&self, u: usize) -> bool
+        requires { u ≤ boats self.now.bytes.items }
+        ensures { result ≡ row_number_ok self.now.bytes.items u }
+    {
+        let number = self.row_number(u);
+        if u == 0 && number != 0 {
+            return false;
+        }
+        if u > 0 && number < self.row_number(u - 1) {
+            return false;
+        }
+        let wishes = self.wishes();
+        if number > wishes {
+            return false;
+        }
+        u < self.boats() || number == wishes
+    }
+}
+
+/// The first fault of the header, and of the length that it tells.
+#[tactic(auto, unfolding(crate::specs::Books::header_fault))]
+fn check_header(bytes: &[u8]) -> Result<(), Fault>
+    ensures { Tells result (header_fault bytes.now) }
+{
+    let len = bytes.len();
+    if len < HEADER {
+        return Err(Rule::BookTooShort.at(len));
+    }
+    let boats = number_at(bytes, 0);
+    if boats > MOST_BOATS {
+        return Err(Rule::BookTooLarge.at(0));
+    }
+    let wishes = number_at(bytes, 2);
+    if wishes > MOST_WISHES {
+        return Err(Rule::BookTooLarge.at(2));
+    }
+    if number_at(bytes, 4) != HEADER {
+        return Err(Rule::WrongOffset.at(4));
+    }
+    let start = table_end(boats);
+    if number_at(bytes, 6) != start {
+        return Err(Rule::WrongOffset.at(6));
+    }
+    if len != start + wishes {
+        return Err(Rule::WrongLength.at(len));
+    }
+    Ok(())
+}
+
+/// Where the row table of so many boats ends.
+fn table_end(boats: usize) -> usize
+    requires { boats ≤ 65535 }
+    ensures { result ≡ 8 + 2 * (boats + 1) }
+{
+    HEADER + 2 * (boats + 1)
+}
 
 /// A number of two bytes, the high byte first.
-pub(crate) fn number_at(bytes: &[u8], at: usize) -> usize
+fn number_at(bytes: &[u8], at: usize) -> usize
     requires { at + 1 < length bytes.now }
     ensures { result ≡ number bytes.now at }
 {
-    usize::from(bytes[at]) * 256 + usize::from(bytes[at + 1])
-}
-
-/// Row number `u` of the row table.
-pub(crate) fn row_number_at(bytes: &[u8], u: usize) -> usize
-    requires { 8 + 2 * u + 1 < length bytes.now }
-    ensures { result ≡ row_number bytes.now u }
-{
-    number_at(bytes, HEADER + 2 * u)
-}
-
-/// Where the wishes begin.
-pub(crate) fn wishes_at(bytes: &[u8]) -> usize
-    requires { 8 ≤ length bytes.now }
-    ensures { result ≡ wishes_at bytes.now }
-{
-    HEADER + 2 * (number_at(bytes, 0) + 1)
-}
-
-/// Where row `u` begins.
-pub(crate) fn row_at(bytes: &[u8], u: usize) -> usize
-    requires { 8 + 2 * u + 1 < length bytes.now }
-    ensures { result ≡ row_at bytes.now u }
-{
-    wishes_at(bytes) + row_number_at(bytes, u)
-}
-
-/// The wishes of boat `u`.
-pub(crate) fn row_slice(bytes: &[u8], u: usize) -> &[u8]
-    requires { (Header bytes.now) × ((Table bytes.now) × (u < boats bytes.now)) }
-    ensures { result.now ≡ book_row bytes.now u }
-{
-    let start = row_at(bytes, u);
-    let end = row_at(bytes, u + 1);
-    &bytes[start..end]
+    usize::from(u16::from_be_bytes([bytes[at], bytes[at + 1]]))
 }

@@ -3,6 +3,6 @@
 
 mod book;
 mod layout;
-mod reader;
+mod table;
 
 pub use book::Book;
