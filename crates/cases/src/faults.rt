@@ -55,9 +55,8 @@ fn want_of_memory_has_a_line_of_its_own(rt: HostRuntime) -> Result<(), Fail> {
 }
 
 // A size that no memory holds.
-fn too_much(heap: Global) -> Result<Vec<u8>, Fault> {
-    let v = Vec::with_capacity(heap, usize::MAX)?;
-    Ok(v)
+fn too_much(alloc: Global) -> Result<Vec<u8>, Fault> {
+    Ok(Vec::with_capacity(alloc, usize::MAX)?)
 }
 
 #[test]
@@ -67,12 +66,6 @@ fn a_value_that_found_no_memory_is_let_go(rt: HostRuntime) {
 }
 
 #[test]
-fn want_of_memory_is_carried_up(rt: HostRuntime) -> Result<(), Fail> {
-    match too_much(rt.alloc()) {
-        Ok(_) => Err(Fail::new("there was memory")),
-        Err(fault) => {
-            assert_eq!(rt; fault, Fault::Memory);
-            Ok(())
-        },
-    }
+fn want_of_memory_is_carried_up(rt: HostRuntime) {
+    assert_eq!(rt; too_much(rt.alloc()).err(), Some(Fault::Memory));
 }

@@ -9,29 +9,27 @@ pub const P: [u8; 29] =
     *b"\x00\x05\x00\x09\x00\x08\x00\x14\x00\x00\x00\x02\x00\x04\x00\x06\x00\x08\x00\x09\x03\x04\x03\x04\x00\x01\x00\x01\x02";
 
 /// The bytes with another byte at one place, if there is such a place.
-pub fn changed(heap: Global, bytes: &[u8], at: usize, byte: u8) -> Result<Vec<u8>, AllocError>
+pub fn changed(alloc: Global, bytes: &[u8], at: usize, byte: u8) -> Result<Vec<u8>, AllocError>
     ensures { IfOk result (λ v. v.items ≡ slice_set bytes.now at byte) }
 {
-    let mut v = bytes.to_vec(heap)?;
-    if at >= v.len() {
-        return Ok(v);
+    let mut changed = bytes.to_vec(alloc)?;
+    if let Some(place) = changed.get_mut(at) {
+        *place = byte;
     }
-    v[at] = byte;
-    Ok(v)
+    Ok(changed)
 }
 
 /// A book of 256 boats, in which each wishes for the 64 that follow it.
 #[cfg(test)]
-pub fn complete(heap: Global) -> Result<Vec<u8>, AllocError> {
-    let mut v = [1, 0, 64, 0, 0, 8, 2, 10].to_vec(heap)?;
-    for u in 0..257u16 {
-        let start = u * 64;
-        v.extend_from_slice(&start.to_be_bytes())?;
+pub fn complete(alloc: Global) -> Result<Vec<u8>, AllocError> {
+    let mut book = [1, 0, 64, 0, 0, 8, 2, 10].to_vec(alloc)?;
+    for u in 0..=256u16 {
+        book.extend_from_slice(&(u * 64).to_be_bytes())?;
     }
-    for u in 0..256u32 {
-        for i in 1..65u32 {
-            v.push(((u + i) % 256) as u8)?;
+    for u in 0..=255u8 {
+        for i in 1..=64 {
+            book.push(u.wrapping_add(i))?;
         }
     }
-    Ok(v)
+    Ok(book)
 }

@@ -6,16 +6,16 @@ use std::alloc::{AllocError, Global};
 use std::test::Fail;
 
 // The bound in front of the bytes of a book.
-fn input(heap: Global, bound: u8, book: &[u8]) -> Result<Vec<u8>, AllocError> {
-    let mut v = [bound].to_vec(heap)?;
-    v.extend_from_slice(book)?;
-    Ok(v)
+fn input(alloc: Global, bound: u8, book: &[u8]) -> Result<Vec<u8>, AllocError> {
+    let mut input = [bound].to_vec(alloc)?;
+    input.extend_from_slice(book)?;
+    Ok(input)
 }
 
 #[test]
 fn the_worked_book_has_five_boats(rt: HostRuntime) -> Result<(), Fail> {
     for bound in [2, 5, 16] {
-        let told = summarize(rt.alloc(), input(rt.alloc(), bound, &P)?);
+        let told = summarize(input(rt.alloc(), bound, &P)?);
         assert_eq!(rt;
             told,
             Ok(Summary {
@@ -35,9 +35,9 @@ fn the_worked_book_has_five_boats(rt: HostRuntime) -> Result<(), Fail> {
 
 #[test]
 fn no_input_is_a_book_too_short(rt: HostRuntime) -> Result<(), Fail> {
-    let told = summarize(rt.alloc(), Vec::new(rt.alloc()));
+    let told = summarize(Vec::new(rt.alloc()));
     assert_eq!(rt; told, Err(Rule::BookTooShort.at(0)));
-    let told = summarize(rt.alloc(), input(rt.alloc(), 5, &P[0..0])?);
+    let told = summarize(input(rt.alloc(), 5, &[])?);
     assert_eq!(rt; told, Err(Rule::BookTooShort.at(0)));
     Ok(())
 }
@@ -45,9 +45,9 @@ fn no_input_is_a_book_too_short(rt: HostRuntime) -> Result<(), Fail> {
 #[test]
 fn a_wrong_bound_is_told_after_the_book(rt: HostRuntime) -> Result<(), Fail> {
     for bound in [0, 1, 17, 255] {
-        let told = summarize(rt.alloc(), input(rt.alloc(), bound, &P)?);
+        let told = summarize(input(rt.alloc(), bound, &P)?);
         assert_eq!(rt; told, Err(Rule::WrongBound.at(usize::from(bound))));
-        let told = summarize(rt.alloc(), input(rt.alloc(), bound, &P[0..28])?);
+        let told = summarize(input(rt.alloc(), bound, &P[..28])?);
         assert_eq!(rt; told, Err(Rule::WrongLength.at(28)));
     }
     Ok(())
@@ -58,7 +58,7 @@ fn bytes_past_the_most_do_not_count(rt: HostRuntime) -> Result<(), Fail> {
     let book = complete(rt.alloc())?;
     let mut longest = input(rt.alloc(), 16, book.as_slice())?;
     assert_eq!(rt; longest.len() + 1, MOST_INPUT);
-    let told = summarize(rt.alloc(), input(rt.alloc(), 16, book.as_slice())?);
+    let told = summarize(input(rt.alloc(), 16, book.as_slice())?);
     assert_eq!(rt;
         told,
         Ok(Summary {
@@ -68,7 +68,7 @@ fn bytes_past_the_most_do_not_count(rt: HostRuntime) -> Result<(), Fail> {
     );
     for _ in 0..3 {
         longest.push(7)?;
-        let told = summarize(rt.alloc(), longest.as_slice().to_vec(rt.alloc())?);
+        let told = summarize(longest.as_slice().to_vec(rt.alloc())?);
         assert_eq!(rt; told, Err(Rule::WrongLength.at(16907)));
     }
     Ok(())

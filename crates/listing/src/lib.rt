@@ -6,7 +6,6 @@ ghost use Rattle.listing.specs.Summaries.{bound_of, book_of, answer_to, summary_
 
 use exchange::{Bound, Fault, Host, count_wishes};
 use hosts::Book;
-use std::alloc::Global;
 use std::fmt;
 
 /// How many bytes of input count: the bound, the longest book, and one byte more, by which a book that is too long is
@@ -24,20 +23,18 @@ impl fmt::Display for Summary {
     ghost output = { λ s. Some (summary_text s) };
 
     fn fmt<W: fmt::Write>(&self, f: &mut fmt::Formatter<W>) -> fmt::Result {
-        let boats = self.boats;
-        let wishes = self.wishes;
-        write!(f, "boats {boats} wishes {wishes}")
+        write!(f, "boats {} wishes {}", self.boats, self.wishes)
     }
 }
 
 /// The summary of the book that stands behind the first byte of the input, which is the bound.
-pub fn summarize(heap: Global, mut input: Vec<u8>) -> Result<Summary, Fault>
+pub fn summarize(mut input: Vec<u8>) -> Result<Summary, Fault>
     ensures { result ≡ answer_to input.items }
 {
     let number = take_bound(&mut input);
-    let mut book = Book::new(heap);
+    let mut book = Book::new();
     book.fill(input)?;
-    let _bound = Bound::check(usize::from(number))?;
+    let _bound = Bound::try_from(usize::from(number))?;
     Ok(Summary {
         boats: book.boats(),
         wishes: count_wishes(&book),
@@ -45,6 +42,7 @@ pub fn summarize(heap: Global, mut input: Vec<u8>) -> Result<Summary, Fault>
 }
 
 /// Takes the bound off the input, and leaves the book.
+#[tactic(auto, unfolding(crate::specs::Summaries::bound_of, crate::specs::Summaries::book_of))]
 fn take_bound(input: &mut Vec<u8>) -> u8
     ensures value { result ≡ bound_of input.old.items }
     ensures rest { input.new.items ≡ book_of input.old.items }

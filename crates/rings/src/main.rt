@@ -8,7 +8,7 @@ use std::io::Read;
 fn main(rt: HostRuntime) -> io::Result<()> {
     let mut input = Vec::new(rt.alloc());
     rt.stdin().take(MOST_INPUT as u64).read_to_end(&mut input)?;
-    match summarize(rt.alloc(), input) {
+    match summarize(input) {
         Ok(summary) => println!(rt; "{summary}"),
         Err(fault) => println!(rt; "{fault}"),
     }
