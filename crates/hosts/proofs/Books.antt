@@ -2,6 +2,7 @@
 -- Assumes nothing.
 use Rattle.std.specs.Prelude.{◌≡◌, ℕ, suc, ◌≤◌, not, ◌||◌, List, [], ◌∷◌, Some, None, Option, ◌==◌, nat_le}
 use Rattle.std.proofs.Common.{ap, subst, ◌∙◌, arith}
+use Rattle.std.proofs.lemmas.Bool.Decides.{nat_tests}
 use Rattle.std.proofs.lemmas.Bool.{not-false, leb-true, and_parts}
 use Rattle.exchange.specs.declared.fault.Fault.{Fault}
 use Rattle.exchange.specs.Checks.{first_of}
@@ -13,11 +14,7 @@ use Rattle.hosts.specs.Layouts.{TableStands}
 
 number_bounds : (b : List ℕ) (u : ℕ) → row_number_fault b u ≡ None → (previous b u ≤ row_number b u) × (row_number b u ≤ wishes b)
 unfolding row_number_fault
-number_bounds b u e =
-    let first = and_parts (not (u == 0) || row_number b u == 0) _ (not-false _ (kept _ _ _ e)) in
-    let low = and_parts (nat_le (previous b u) (row_number b u)) _ first.1 in
-    let high = and_parts (nat_le (row_number b u) (wishes b)) _ low.1 in
-    (leb-true _ _ low.0, leb-true _ _ high.0)
+number_bounds b u e = (grind (arith, nat_tests), grind (arith, nat_tests))
 
 -- where every row number keeps its rule
 pub numbers_stand : (b : List ℕ) → ((u : ℕ) → u ≤ boats b → row_number_fault b u ≡ None) → TableStands b

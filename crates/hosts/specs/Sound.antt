@@ -5,6 +5,7 @@ use Rattle.std.specs.Prelude.{◌≡◌, ℕ, ◌+◌, ◌<◌, ◌≤◌, false
 use Rattle.std.proofs.Common.{sym, subst, ⊎_elim, arith}
 use Rattle.std.proofs.lemmas.List.FromFn.{length-map-range_with_len, get_or-map-range_with_len}
 use Rattle.std.proofs.lemmas.List.{get_or_past}
+use Rattle.std.proofs.lemmas.Bool.Decides.{nat_tests}
 use Rattle.std.proofs.lemmas.Bool.{not-false, ltb-true, ltb-false, eqb-true, eqb-false, cases_lt}
 use Rattle.exchange.specs.Checks.{refuse_if}
 use Rattle.exchange.specs.Rows.{row, ◌∈◌, Fresh, WellFormed, has}
@@ -21,18 +22,7 @@ use Rattle.hosts.specs.Shown.{rows_of}
 
 pub header_facts : (b : List ℕ) → header_fault b ≡ None → HeaderStands b
 unfolding header_fault
-header_facts b e =
-    let short = first_none (refuse_if (nat_lt (length b) 8) _ _) _ e in
-    let many = first_none (refuse_if (nat_lt 256 (boats b)) _ _) _ short.1 in
-    let full = first_none (refuse_if (nat_lt 16384 (wishes b)) _ _) _ many.1 in
-    let table = first_none (refuse_if (not (table_offset b == 8)) _ _) _ full.1 in
-    let start = first_none (refuse_if (not (wishes_offset b == wishes_at b)) _ _) _ table.1 in
-    let long = first_none (refuse_if (not (length b == wishes_at b + wishes b)) _ _) _ start.1 in
-    record {
-      few = ltb-false 256 (boats b) (kept _ _ _ many.0);
-      small = ltb-false 16384 (wishes b) (kept _ _ _ full.0);
-      long = eqb-true (length b) (wishes_at b + wishes b) (not-false _ (kept _ _ _ long.0));
-    }
+header_facts b e = record { few = grind (arith, nat_tests); small = grind (arith, nat_tests); long = grind (arith, nat_tests) }
 
 -- ---- the rows that such bytes show
 
@@ -63,14 +53,7 @@ wish_kept b e u h j l =
     let cut = book_row b u in
     let row = none_at (λ v. row_fault (boats b) v (row_at b v) (book_row b v)) 0 (boats b) u e (omega arith) (omega arith) in
     let wish = none_at (wish_fault (boats b) u (row_at b u) cut) 0 (length cut) j row (omega arith) (omega arith) in
-    let known = first_none (refuse_if (not (nat_lt (slice_index cut j) (boats b))) _ _) _ wish in
-    let other = first_none (refuse_if (slice_index cut j == u) _ _) _ known.1 in
-    let once = first_none (refuse_if (has (take j cut) (slice_index cut j)) _ _) _ other.1 in
-    record {
-      below = ltb-true _ _ (not-false _ (kept _ _ _ known.0));
-      other = eqb-false _ _ (kept _ _ _ other.0);
-      once = kept _ _ _ once.0;
-    }
+    record { below = grind (arith, nat_tests, wish); other = grind (arith, nat_tests, wish); once = grind (arith, nat_tests, wish) }
 
 -- a wish of row u is one of a boat's row, at some place of it
 wish_of : (b : List ℕ) → wishes_fault b ≡ None → (u w : ℕ) → w ∈ row (book_rows b) u → (w < boats b) × (w ≢ u)
