@@ -175,6 +175,6 @@ impl<T: Drop> From<AllocFailed<T>> for Fault {
     ghost from_gives = { λ _ r. r ≡ Memory };
 
     fn from(e: AllocFailed<T>) -> Fault {
-        <Fault as From<AllocError>>::from(AllocError::from(e))
+        AllocError::from(e).into()
     }
 }

@@ -1,12 +1,11 @@
 -- What the checks of a book leave, and what a book that holds bytes shows: each row as long as the table says.
 -- Assumes nothing.
-use Rattle.std.specs.Prelude.{◌≡◌, ℕ, suc, ◌≤◌, not, ◌||◌, List, [], ◌∷◌, Some, None, Option, ◌==◌, nat_le}
+use Rattle.std.specs.Prelude.{◌≡◌, ℕ, suc, ◌≤◌, List, [], ◌∷◌, Some, None, Option}
 use Rattle.std.proofs.Common.{ap, subst, ◌∙◌, arith}
 use Rattle.std.proofs.lemmas.Bool.Decides.{nat_tests}
-use Rattle.std.proofs.lemmas.Bool.{not-false, leb-true, and_parts}
 use Rattle.exchange.specs.declared.fault.Fault.{Fault}
 use Rattle.exchange.specs.Checks.{first_of}
-use Rattle.exchange.proofs.Checks.{kept, first_one}
+use Rattle.exchange.proofs.Checks.{first_one}
 use Rattle.hosts.specs.Books.{boats, wishes, row_number, header_fault, previous, row_number_fault, table_fault, wishes_fault, book_fault}
 use Rattle.hosts.specs.Layouts.{TableStands}
 

@@ -1,17 +1,16 @@
 -- That the rows of accepted bytes are well formed: the proof of the law that a book owes as a host. It stands here because an
 -- `impl` may cite nothing of its crate's `proofs/`; it defines nothing that a contract speaks of, and need not be read.
 -- Assumes nothing.
-use Rattle.std.specs.Prelude.{◌≡◌, ℕ, ◌+◌, ◌<◌, ◌≤◌, false, not, ◌≢◌, List, [], length, take, Some, None, Option, ◌==◌, nat_lt, slice_index, refl}
+use Rattle.std.specs.Prelude.{◌≡◌, ℕ, ◌<◌, ◌≤◌, false, ◌≢◌, List, [], length, take, Some, None, Option, slice_index, refl}
 use Rattle.std.proofs.Common.{sym, subst, ⊎_elim, arith}
 use Rattle.std.proofs.lemmas.List.FromFn.{length-map-range_with_len, get_or-map-range_with_len}
 use Rattle.std.proofs.lemmas.List.{get_or_past}
 use Rattle.std.proofs.lemmas.Bool.Decides.{nat_tests}
-use Rattle.std.proofs.lemmas.Bool.{not-false, ltb-true, ltb-false, eqb-true, eqb-false, cases_lt}
-use Rattle.exchange.specs.Checks.{refuse_if}
+use Rattle.std.proofs.lemmas.Bool.{cases_lt}
 use Rattle.exchange.specs.Rows.{row, ◌∈◌, Fresh, WellFormed, has}
-use Rattle.exchange.proofs.Checks.{kept, first_none, none_at}
+use Rattle.exchange.proofs.Checks.{first_none, none_at}
 use Rattle.exchange.proofs.Rows.{place_of, fresh_from_places}
-use Rattle.hosts.specs.Books.{boats, wishes, table_offset, wishes_offset, wishes_at, row_at, book_row, book_rows, header_fault, table_fault, wish_fault, row_fault, wishes_fault, book_fault}
+use Rattle.hosts.specs.Books.{boats, row_at, book_row, book_rows, header_fault, table_fault, wish_fault, row_fault, wishes_fault, book_fault}
 use Rattle.std.specs.Option.{option_map_or, ForSome}
 use Rattle.hosts.specs.declared.book.Book.{Book}
 use Rattle.hosts.specs.declared.table.Table.{Table}

@@ -1,7 +1,7 @@
 //! The layout of a book: bytes that are as long as their header says.
 ghost use Rattle.std.specs.Prelude.{◌≡◌, ◌+◌, ◌*◌, ◌<◌, ◌≤◌, length, IfOk};
 ghost use Rattle.exchange.specs.Checks.{Tells};
-ghost use Rattle.hosts.specs.Books.{number, boats, wishes, row_number, row_number_ok, row_number_fault, wishes_at, header_fault};
+ghost use Rattle.hosts.specs.Books.{number, boats, wishes, row_number, row_number_fault, wishes_at, header_fault};
 ghost use Rattle.hosts.specs.Layouts.{HeaderStands};
 
 use exchange::{Fault, Rule};
@@ -68,37 +68,29 @@ impl Layout {
         number_at(self.bytes(), HEADER + 2 * u)
     }
 
-    /// The fault of row number `u`.
+    /// The fault of row number `u`: it is 0 at the first, not below the one before it, not above the number of wishes, and
+    /// that number at the last.
     #[tactic(auto, unfolding(crate::specs::Books::row_number_fault))]
     pub(crate) fn check_row_number(&self, u: usize) -> Result<(), Fault>
         requires { u ≤ boats self.now.bytes.items }
         ensures { Tells result (row_number_fault self.now.bytes.items u) }
     {
-        if self.row_number_stands(u) {
-            Ok(())
-        } else {
-            Err(Rule::WrongRowNumber.at(HEADER + 2 * u))
-        }
-    }
-
-    /// Whether row number `u` is 0 at the first, not below the one before it, not above the number of wishes, and that
-    /// number at the last.
-    fn row_number_stands(&self, u: usize) -> bool
-        requires { u ≤ boats self.now.bytes.items }
-        ensures { result ≡ row_number_ok self.now.bytes.items u }
-    {
+        let fault = Rule::WrongRowNumber.at(HEADER + 2 * u);
         let number = self.row_number(u);
         if u == 0 && number != 0 {
-            return false;
+            return Err(fault);
         }
         if u > 0 && number < self.row_number(u - 1) {
-            return false;
+            return Err(fault);
         }
         let wishes = self.wishes();
         if number > wishes {
-            return false;
+            return Err(fault);
         }
-        u < self.boats() || number == wishes
+        if u == self.boats() && number != wishes {
+            return Err(fault);
+        }
+        Ok(())
     }
 }
 
