@@ -7,7 +7,7 @@ use super::{Fault, Rule};
 use std::marker::Model;
 
 /// How many boats a ring may have at most: 2 to 16. No other bound can be made.
-#[derive(Clone, Copy, PartialEq, Eq, PartialOrd, Ord, Hash, Debug)]
+#[derive(Clone, Copy, PartialEq, Eq, Debug)]
 pub struct Bound {
     number: usize,
 }

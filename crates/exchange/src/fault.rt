@@ -171,6 +171,7 @@ impl From<AllocError> for Fault {
 }
 
 /// A `push` or an `insert` that found no memory hands its value back: it is let go.
+// Beside the `impl` above, since `?` looks for one for each error of the library.
 impl<T: Drop> From<AllocFailed<T>> for Fault {
     ghost from_gives = { λ _ r. r ≡ Memory };
 

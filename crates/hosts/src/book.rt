@@ -10,6 +10,7 @@ use super::table::Table;
 use exchange::{Fault, Host};
 
 /// Rows in the bytes of the layout. A book holds only bytes that its reader accepted, or none yet.
+// No `impl Model`: callers of a model see no invariant, so the law `sound` would be owed by any rows at all.
 #[derive(Drop)]
 pub struct Book {
     table: Option<Table>,

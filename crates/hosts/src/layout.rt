@@ -16,6 +16,7 @@ const MOST_BOATS: usize = 256;
 const MOST_WISHES: usize = 16384;
 
 /// Bytes whose header stands.
+// No `impl Model`: by a model, a refused book would be told equal to the old one in its bytes alone, not in its vector.
 #[derive(Drop)]
 pub(crate) struct Layout {
     bytes: Vec<u8>,
@@ -61,6 +62,7 @@ impl Layout {
     }
 
     /// Row number `u` of the row table.
+    // An index, in range as at a slice: a type for it would state the same bound.
     pub(crate) fn row_number(&self, u: usize) -> usize
         requires { u ≤ boats self.now.bytes.items }
         ensures { result ≡ row_number self.now.bytes.items u }

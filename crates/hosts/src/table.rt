@@ -9,6 +9,7 @@ use super::layout::Layout;
 use exchange::{Fault, Rule};
 
 /// A layout whose row numbers stand.
+// The rows stay in the bytes that were handed over: a vector of rows would want memory, and a book asks for none.
 #[derive(Drop)]
 pub(crate) struct Table {
     layout: Layout,

@@ -48,5 +48,6 @@ fn take_bound(input: &mut Vec<u8>) -> u8
     ensures rest { input.new.items ≡ book_of input.old.items }
 {
     input.truncate(MOST_INPUT);
+    // By the rule a missing bound is the number 0, which is refused like any wrong number: no `Option` would be read.
     if input.is_empty() { 0 } else { input.remove(0) }
 }

@@ -7,6 +7,7 @@ use std::io::Read;
 
 fn main(rt: HostRuntime) -> io::Result<()> {
     let mut input = Vec::new(rt.alloc());
+    // `as` is proved to lose nothing; `try_from` would add a way to fail.
     rt.stdin().take(MOST_INPUT as u64).read_to_end(&mut input)?;
     match summarize(input) {
         Ok(summary) => println!(rt; "{summary}"),
