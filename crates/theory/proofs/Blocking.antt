@@ -1,13 +1,12 @@
 -- Entries, depths, passed wishes and blocked boats, as the locks change; and that no ring is in the reach of a blocked boat.
 -- Assumes nothing.
-use Rattle.std.proofs.Common.{◌≡◌, ℕ, zero, suc, ◌+◌, ◌<◌, ◌≤◌, true, false, ◌&&◌, ltb, List, [], ◌∷◌, length, take, set, refl, ap, ◌∙◌, subst, inl, inr, ⊎_elim, arith}
+use Rattle.std.proofs.Common.{◌≡◌, ℕ, zero, suc, ◌+◌, ◌<◌, ◌≤◌, true, false, List, [], ◌∷◌, length, take, set, refl, ap, ◌∙◌, inl, inr, arith}
 use Rattle.std.proofs.lemmas.List.{get_or-set_other, get_or_past}
-use Rattle.std.proofs.lemmas.Bool.{ne_eqb, ltb-true, ltb-false, and_parts, and_cases, cases_lt}
+use Rattle.std.proofs.lemmas.Bool.Decides.{nat_tests}
 use Rattle.exchange.specs.Rows.{Rows, row, ◌∈◌}
 use Rattle.theory.specs.Search.{Waiters, Frame, boats, lock, free, may_enter}
-use Rattle.theory.proofs.Lists.{flat_none, set_cases}
-use Rattle.theory.proofs.Remaining.{part, onward}
-use Rattle.theory.proofs.Progress.{part_none}
+use Rattle.theory.proofs.Lists.{flat_map_none, set_cases}
+use Rattle.theory.proofs.Remaining.{deeper, part, chosen}
 use Rattle.theory.proofs.Invariant.{Depths, Passed, Seen, Blocked}
 
 -- what the test tells, where a boat may be entered and where not
@@ -17,17 +16,10 @@ pub record Entry (k s d : ℕ) (locks : List ℕ) (w : ℕ) : Type 0 where
   pub room : d < k
 
 pub may : (k s d : ℕ) (locks : List ℕ) (w : ℕ) → may_enter k s locks d w ≡ true → Entry k s d locks w
-may k s d locks w e =
-    let a = and_parts (ltb s w) (ltb d (lock locks w) && ltb d k) e in
-    let b = and_parts (ltb d (lock locks w)) (ltb d k) a.1 in
-    record { above = ltb-true s w a.0; low = ltb-true d (lock locks w) b.0; room = ltb-true d k b.1 }
+may k s d locks w e = grind (arith, nat_tests)
 
 pub may_not : (k s d : ℕ) (locks : List ℕ) (w : ℕ) → may_enter k s locks d w ≡ false → s < w → d < k → lock locks w ≤ d
-may_not k s d locks w e above room =
-    ⊎_elim (λ a. let b = ltb-false s w a in absurd (omega arith))
-    (λ a. ⊎_elim (λ b. ltb-false d (lock locks w) b) (λ b. let c = ltb-false d k b in absurd (omega arith))
-    (and_cases (ltb d (lock locks w)) (ltb d k) a))
-    (and_cases (ltb s w) (ltb d (lock locks w) && ltb d k) e)
+may_not k s d locks w e above room = grind (arith, nat_tests)
 
 pub depth_below : (locks : List ℕ) (p : List Frame) → Depths locks p → (x : ℕ) → x ∈ boats p → lock locks x < length p
 depth_below locks [] h x m = absurd m
@@ -39,7 +31,7 @@ depths_kept l m [] s h = tt
 depths_kept l m (f ∷ p) s h = (s f.boat (inl refl) ∙ h.0, depths_kept l m p (λ x k. s x (inr k)) h.1)
 
 pub locked_in : (locks : List ℕ) (v : ℕ) → lock locks v < free → v < length locks
-locked_in locks v h = ⊎_elim (λ k. k) (λ k. let e = get_or_past locks v free k in absurd (omega arith)) (cases_lt v (length locks))
+locked_in locks v h = grind (arith, get_or_past)
 
 pub passed_lower : (k s d : ℕ) (l m ws : List ℕ) → ((x : ℕ) → lock m x ≤ lock l x) → Passed k s l d ws → Passed k s m d ws
 passed_lower k s d l m ws low h w i =
@@ -55,10 +47,7 @@ seen_lower rows k s l m (f ∷ p) low h =
     )
 
 pub set_lower : (l : List ℕ) (w d : ℕ) → d ≤ lock l w → (x : ℕ) → lock (set l w d) x ≤ lock l x
-set_lower l w d h x =
-    ⊎_elim (λ e. omega arith) (λ e. let a : x ≡ w = e.0 in let b : lock (set l w d) x ≡ d = e.1 in
-    let c : lock l x ≡ lock l w = ap (λ z. lock l z) a in omega arith)
-    (set_cases l w d x free)
+set_lower l w d h x = grind (arith, set_cases l w d x free)
 
 -- entering w, at a depth not above its lock
 pub blocked_enter : (rows : Rows) (k s : ℕ) (l : List ℕ) (waiters : Waiters) (p : List Frame) (f : Frame) (d : ℕ) →
@@ -71,21 +60,14 @@ blocked_enter rows k s l waiters p f d h b v n a w i =
 
 -- from a blocked boat no ring is found in its reach
 module _ (rows : Rows) (k s : ℕ) (l : List ℕ) (waiters : Waiters) (p : List Frame) (b : Blocked rows k s l waiters p) where
-  abbrev None : ℕ → List ℕ → ℕ → Type 0
-  None j q w =
-      ((x : ℕ) → x ∈ boats p → x ∈ q) → ¬ (w ∈ boats p) → lock l w + j < k → onward rows s j (w ∷ q) (row rows w) ≡ []
-
-  none_next : (j : ℕ) (q : List ℕ) (w : ℕ) → ((i x : ℕ) → j ≡ suc i → None i (w ∷ q) x) → None j q w
-  none_next j q w deeper on off h =
-      flat_none (part rows s j (w ∷ q)) (row rows w)
+  pub blocked_none : (j : ℕ) (q : List ℕ) (w : ℕ) → ((x : ℕ) → x ∈ boats p → x ∈ q) → ¬ (w ∈ boats p) →
+      (0 < j → lock l w + j ≤ k) → deeper rows s j q w ≡ []
+  blocked_none zero q w on off h = refl
+  blocked_none (suc j) q w on off h =
+      flat_map_none (part rows s j (w ∷ q)) (row rows w)
       (λ x m.
       let g = b w off (omega arith) x m in
-      part_none rows s j (w ∷ q) x (ne_eqb x s g.0)
-      (λ i e above out.
-      let low = (g.1 above (omega arith)).0 in
-      deeper i x e (λ y n. inr (on y n)) (λ n. out (inr (on x n))) (omega arith)))
-
-  pub blocked_none : (j : ℕ) (q : List ℕ) (w : ℕ) → None j q w
-  blocked_none zero q w = none_next zero q w (λ i x e. absurd (omega arith))
-  blocked_none (suc j) q w =
-      none_next (suc j) q w (λ i x e. let same : j ≡ i = omega arith in subst (λ n. None n (w ∷ q) x) same (blocked_none j (w ∷ q) x))
+      chosen s (w ∷ q) x (deeper rows s j (w ∷ q) x) (λ r. r ≡ []) (λ e. absurd (g.0 e)) refl
+      (λ above out.
+      blocked_none j (w ∷ q) x (λ y n. inr (on y n)) (λ n. out (inr (on x n)))
+      (λ some. let low = (g.1 above (omega arith)).0 in omega arith)))

@@ -1,23 +1,40 @@
 -- The rings that remain to be found at a state, by plain search: every path is tried, and no lock is asked.
 -- Assumes nothing.
-use Rattle.std.proofs.Common.{ℕ, zero, suc, ◌+◌, ◌-◌, Bool, true, false, not, ◌&&◌, eqb, ltb, List, [], ◌∷◌, ◌++◌, reverse, length, drop}
-use Rattle.exchange.specs.Rows.{Rows, row, has}
+use Rattle.std.proofs.Common.{◌≡◌, ℕ, zero, suc, ◌+◌, ◌-◌, ◌<◌, not, ◌&&◌, cond, eqb, ltb, List, [], ◌∷◌, ◌++◌, reverse, length, drop, arith}
+use Rattle.std.specs.List.{flat_map}
+use Rattle.std.proofs.lemmas.Bool.Decides.{nat_tests}
+use Rattle.exchange.specs.Rows.{Rows, row, ◌∈◌, has}
 use Rattle.theory.specs.Search.{Waiters, Frame, State, boats}
-use Rattle.theory.proofs.Lists.{flat}
+use Rattle.theory.proofs.Lists.{has_true, has_false}
 
-abbrev pub choose : Bool → Bool → List ℕ → List (List ℕ) → List (List ℕ)
-choose true on path deeper = reverse path ∷ []
-choose false true path deeper = deeper
-choose false false path deeper = []
+-- the path with the step to w: back to the root s it is a ring, and to a boat that may follow it is what goes on from there
+abbrev pub choose : ℕ → List ℕ → ℕ → List (List ℕ) → List (List ℕ)
+choose s path w onward = cond (eqb w s) (reverse path ∷ []) (cond (ltb s w && not (has path w)) onward [])
 
--- the rings that begin with the path and take the step to w, with at most j boats more; the last boat of the path stands first in it
+-- the rings that begin with the path and then w, with at most j boats behind the path; its last boat stands first in it
+abbrev pub deeper : Rows → ℕ → ℕ → List ℕ → ℕ → List (List ℕ)
+deeper rows s zero path w = []
+deeper rows s (suc j) path w = flat_map (λ x. choose s (w ∷ path) x (deeper rows s j (w ∷ path) x)) (row rows w)
+
+-- the rings that begin with the path and take the step to w, with at most j boats more
 abbrev pub part : Rows → ℕ → ℕ → List ℕ → ℕ → List (List ℕ)
-part rows s zero path w = choose (eqb w s) false path []
-part rows s (suc j) path w = choose (eqb w s) (ltb s w && not (has path w)) path (flat (part rows s j (w ∷ path)) (row rows w))
+part rows s j path w = choose s path w (deeper rows s j path w)
 
 -- those that take a step to one of the boats ws
 abbrev pub onward : Rows → ℕ → ℕ → List ℕ → List ℕ → List (List ℕ)
-onward rows s j path ws = flat (part rows s j path) ws
+onward rows s j path ws = flat_map (part rows s j path) ws
+
+module _ (s : ℕ) (path : List ℕ) (w : ℕ) (on : List (List ℕ)) where
+  pub choose_back : w ≡ s → choose s path w on ≡ reverse path ∷ []
+  choose_back e = grind (arith, nat_tests)
+
+  pub choose_on : s < w → ¬ (w ∈ path) → choose s path w on ≡ on
+  choose_on above off = grind (arith, nat_tests, has_true path w)
+
+  -- what holds in each case
+  pub chosen : (P : List (List ℕ) → Type 0) → (w ≡ s → P (reverse path ∷ [])) → P [] → (s < w → ¬ (w ∈ path) → P on) →
+      P (choose s path w on)
+  chosen P back none go = grind (arith, nat_tests, has_false path w)
 
 -- the rings of the first boats i, i + 1, .., m of them
 abbrev pub from_roots : Rows → ℕ → ℕ → ℕ → List (List ℕ)

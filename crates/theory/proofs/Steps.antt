@@ -2,14 +2,14 @@
 -- Assumes nothing.
 use Rattle.std.proofs.Common.{◌≡◌, ℕ, ◌+◌, ◌-◌, ◌<◌, ◌≤◌, Bool, true, false, eqb, ltb, List, [], ◌∷◌, length, take, set, refl, ap, arith}
 use Rattle.std.proofs.lemmas.List.{get_or-set_same}
-use Rattle.std.proofs.lemmas.Bool.{eqb-false, ltb-true, ltb-false}
+use Rattle.std.proofs.lemmas.Bool.{eqb-true, eqb-false, ltb-true, ltb-false}
 use Rattle.exchange.specs.Rows.{Rows, row, ◌∈◌, WellFormed}
 use Rattle.theory.specs.Search.{Waiters, Frame, State, Silent, boats, lock, free, has_wish, wish, used_up, may_enter, on_wish, on_path, on_root, step, moved}
 use Rattle.theory.proofs.Lists.{in-get_or}
-use Rattle.theory.proofs.Remaining.{from_roots, at}
+use Rattle.theory.proofs.Remaining.{deeper, chosen, from_roots, at}
 use Rattle.theory.proofs.Invariant.{Inv, Good}
 use Rattle.theory.proofs.Blocking.{may, may_not, depth_below, seen_lower, passed_lower, set_lower, blocked_none}
-use Rattle.theory.proofs.Progress.{part_none, remains_root, remains_ring, remains_passed, remains_entered, remains_left}
+use Rattle.theory.proofs.Progress.{remains_root, remains_ring, remains_passed, remains_entered, remains_left}
 use Rattle.theory.proofs.Keeping.{in_row, inv_none, inv_entered, passed_more, inv_found, inv_passed, inv_waits, inv_released}
 
 module _ (rows : Rows) (k : ℕ) (wf : WellFormed rows) (two : 2 ≤ k) (most : k ≤ 16) where
@@ -43,7 +43,7 @@ module _ (rows : Rows) (k : ℕ) (wf : WellFormed rows) (two : 2 ≤ k) (most : 
 
     wish_good : f.place < length ws → (b c : Bool) → eqb w s ≡ b → may_enter k s locks d w ≡ c →
         Good rows k st (on_wish b c st f p w)
-    wish_good l true c eb ec = (inv_found rows k wf most s f p locks waiters e h, remains_ring rows k s f p l eb)
+    wish_good l true c eb ec = (inv_found rows k wf most s f p locks waiters e h, remains_ring rows k s f p l (eqb-true w s eb))
     wish_good l false true eb ec =
         let m = may k s d locks w ec in
         let off : ¬ (w ∈ boats (f ∷ p)) = λ i. let q = depth_below locks (f ∷ p) h.depths w i in let low = m.low in omega arith in
@@ -60,14 +60,16 @@ module _ (rows : Rows) (k : ℕ) (wf : WellFormed rows) (two : 2 ≤ k) (most : 
                 seen_lower rows k s locks (set locks w d) p lower (h.seen q).1,
               ))
               h.blocked,
-          remains_entered rows k s f p l eb m.above off m.room,
+          remains_entered rows k s f p l m.above off m.room,
         )
     wish_good l false false eb ec = (
       inv_passed rows k wf most s f p locks waiters e h l (eqb-false w s eb, may_not k s d locks w ec),
-      remains_passed rows k s f p l (part_none rows s (k - 1 - length p) (boats (f ∷ p)) w eb
-          (λ i g above off.
-          let n = may_not k s d locks w ec above (omega arith) in
-          blocked_none rows k s locks waiters (f ∷ p) h.blocked i (boats (f ∷ p)) w (λ x q. q) off (omega arith))),
+      remains_passed rows k s f p l
+          (chosen s (boats (f ∷ p)) w (deeper rows s (k - 1 - length p) (boats (f ∷ p)) w) (λ r. r ≡ [])
+          (λ z. absurd (eqb-false w s eb z)) refl
+          (λ above off.
+          blocked_none rows k s locks waiters (f ∷ p) h.blocked (k - 1 - length p) (boats (f ∷ p)) w (λ x q. q) off
+          (λ some. let n = may_not k s d locks w ec above (omega arith) in omega arith))),
     )
 
   used_good : (s : ℕ) (f : Frame) (p : List Frame) (locks : List ℕ) (waiters : Waiters) (e : ℕ) →
