@@ -8,7 +8,8 @@ use Rattle.exchange.specs.Rows.{Rows, row, ◌∈◌, WellFormed}
 use Rattle.theory.specs.Search.{Waiters, Frame, boats, lock, waits, free, all_free, no_waiters, opening, release, wait_each, wish, moved, marked, entered}
 use Rattle.theory.proofs.Lists.{in_cases, get_or-all}
 use Rattle.theory.proofs.Remaining.{at}
-use Rattle.theory.proofs.Release.{Released, release_leaves}
+use Rattle.theory.proofs.Release.{finite, deep_enough, Released}
+use Rattle.theory.proofs.Closure.{left, stays}
 use Rattle.theory.proofs.Invariant.{Depths, Passed, Seen, Blocked, Wide, Inv}
 use Rattle.theory.proofs.Waiting.{wait_keeps, wait_wide, wait_does, none_wide}
 use Rattle.theory.proofs.Blocking.{depth_below, depths_kept, locked_in, blocked_enter}
@@ -134,14 +135,15 @@ module _ (rows : Rows) (k : ℕ) (wf : WellFormed rows) (most : k ≤ 16) where
       let long : length locks ≡ 256 = h.long in
       let short : length (f ∷ g ∷ p) ≤ k = h.short in
       let here : lock locks v ≡ length (g ∷ p) = h.depths.0 in
-      let r : Released waiters o v locks m = release_leaves waiters o v locks (omega arith) in
+      let deep : finite (set locks v free) ≤ 256 = deep_enough locks v (omega arith) in
+      let r : Released waiters o locks v v locks m = left waiters o v locks 256 deep in
       let free_v : lock m v ≡ free = r.self in
       record {
-        long = r.long ∙ h.long;
+        long = r.freed.long ∙ h.long;
         wide = h.wide;
         short = omega arith;
         depths = depths_kept locks m (g ∷ p)
-            (λ x i. r.stay x (inr i) (λ z.
+            (λ x i. stays waiters o v locks 256 deep x (inr i) (λ z.
             let a = depth_below locks (g ∷ p) h.depths.1 x i in
             let b : lock locks x ≡ lock locks v = ap (λ y. lock locks y) z in
             omega arith))
@@ -149,15 +151,15 @@ module _ (rows : Rows) (k : ℕ) (wf : WellFormed rows) (most : k ≤ 16) where
         seen = λ q. absurd (both_ways true q refl);
         blocked = λ u off low w i.
             let out : ¬ (u ∈ o) = ⊎_elim (λ z. let b : lock m u ≡ lock m v = ap (λ y. lock m y) z in omega arith) off in
-            let same : lock m u ≡ lock locks u = ⊎_elim (λ a. a) (λ a. absurd (omega arith)) (r.only u) in
+            let same : lock m u ≡ lock locks u = ⊎_elim (λ a. a) (λ a. let b = a.0 in absurd (omega arith)) (r.freed.only u) in
             let b = h.blocked u out (omega arith) w i in (
               b.0,
               λ above room.
                   let c = b.1 above (omega arith) in
                   let d : lock locks w ≤ lock locks u + 1 = c.0 in (
                     ⊎_elim (λ a. omega arith)
-                        (λ a. let x = r.closed w (omega arith) (omega arith) u c.1 out in absurd (omega arith))
-                        (r.only w),
+                        (λ a. let x = r.freed.closed w (omega arith) (omega arith) u c.1 out in absurd (omega arith))
+                        (r.freed.only w),
                     c.1,
                   ),
             );
