@@ -1,6 +1,7 @@
 -- What holds at each state that the search comes to, and what a step then does.
 -- Assumes nothing.
-use Rattle.std.proofs.Common.{◌≡◌, ℕ, ◌+◌, ◌<◌, ◌≤◌, true, false, ◌≢◌, List, [], ◌∷◌, length, get_or, take}
+use Rattle.std.proofs.Common.{◌≡◌, ℕ, ◌+◌, ◌<◌, ◌≤◌, true, false, ◌≢◌, List, [], ◌∷◌, length, take}
+use Rattle.std.specs.List.{All}
 use Rattle.exchange.specs.Rows.{Rows, row, ◌∈◌}
 use Rattle.theory.specs.Search.{Waiters, Frame, State, Outcome, Ended, Silent, Found, boats, lock, waits}
 use Rattle.theory.proofs.Remaining.{remaining}
@@ -28,7 +29,7 @@ Blocked rows k s locks waiters p =
 
 -- there are 256 marks for each of 256 boats
 abbrev pub Wide : Waiters → Type 0
-Wide waiters = (length waiters ≡ 256) × ((w : ℕ) → w < 256 → length (get_or waiters w []) ≡ 256)
+Wide waiters = (length waiters ≡ 256) × All (λ marks. length marks ≡ 256) waiters
 
 -- THE INVARIANT
 pub record Inv (rows : Rows) (k : ℕ) (st : State) : Type 0 where

@@ -5,13 +5,13 @@ use lib.ListN.{length-replicate}
 use Rattle.std.proofs.lemmas.List.{get_or-set_same, get_or-set_other, take_all, take_more}
 use Rattle.std.proofs.lemmas.Bool.{cases_eq, both_ways}
 use Rattle.exchange.specs.Rows.{Rows, row, ◌∈◌, WellFormed}
-use Rattle.theory.specs.Search.{Waiters, Frame, boats, lock, waits, free, all_free, no_waiters, opening, release, wait_each, wish, moved, marked, entered}
+use Rattle.theory.specs.Search.{Waiters, Frame, boats, lock, free, all_free, no_waiters, opening, release, wait_each, wish, moved, marked, entered}
 use Rattle.theory.proofs.Lists.{in_cases, get_or-all}
 use Rattle.theory.proofs.Remaining.{at}
 use Rattle.theory.proofs.Release.{finite, deep_enough, Released}
 use Rattle.theory.proofs.Closure.{left, stays}
 use Rattle.theory.proofs.Invariant.{Depths, Passed, Seen, Blocked, Wide, Inv}
-use Rattle.theory.proofs.Waiting.{wait_keeps, wait_wide, wait_does, none_wide}
+use Rattle.theory.proofs.Waiting.{waited, none_wide}
 use Rattle.theory.proofs.Blocking.{depth_below, depths_kept, locked_in, blocked_enter}
 
 module _ (rows : Rows) (k : ℕ) (wf : WellFormed rows) (most : k ≤ 16) where
@@ -99,9 +99,10 @@ module _ (rows : Rows) (k : ℕ) (wf : WellFormed rows) (most : k ≤ 16) where
         let short : length (f ∷ p) ≤ k = h.short in
         let long : length locks ≡ 256 = h.long in
         let small : v < length locks = locked_in locks v (omega arith) in
+        let r = waited s v ws waiters (in_row v) (omega arith) h.wide in
         record {
           long = h.long;
-          wide = wait_wide s v ws waiters (in_row v) h.wide;
+          wide = r.wide;
           short = omega arith;
           depths = h.depths.1;
           seen = (h.seen unfound).1;
@@ -114,13 +115,12 @@ module _ (rows : Rows) (k : ℕ) (wf : WellFormed rows) (most : k ≤ 16) where
                 λ above room.
                     let a = c.1 above (omega arith) in (
                       omega arith,
-                      subst (λ y. waits (wait_each s v ws waiters) w y ≡ true) (sym z)
-                          (wait_does s v ws waiters (in_row v) (omega arith) h.wide w i' (omega arith)),
+                      rw z (r.does w i' (omega arith)),
                     ),
               ))
               (λ z.
               let c = h.blocked u (⊎_elim z off) low w i in
-              (c.0, λ above room. let d = c.1 above room in (d.0, wait_keeps s v ws waiters w u d.1)))
+              (c.0, λ above room. let d = c.1 above room in (d.0, r.keeps w u d.1)))
               (cases_eq u v);
         }
 
