@@ -1,16 +1,12 @@
 -- The worked rows, by one test that is computed over the whole table.
 -- Assumes nothing.
 use Rattle.std.proofs.Common.{◌≡◌, ℕ, zero, suc, Bool, true, false, ◌&&◌, eqb, leb, List, [], ◌∷◌, length, take, refl}
+use Rattle.std.specs.List.{list_all}
+use Rattle.std.specs.Str.{bytes_eq}
 use Rattle.exchange.specs.Rows.{Rows}
 use Rattle.theory.specs.Search.{State, Outcome, Ended, Silent, Found, opening, step, release_within}
 use Rattle.theory.specs.Worked.{Line, Ring, End, Case, cases, counted_to, capped}
 use Rattle.theory.proofs.WellFormed.{rows_test}
-
-abbrev pub same : List ℕ → List ℕ → Bool
-same [] [] = true
-same [] (y ∷ ys) = false
-same (x ∷ xs) [] = false
-same (x ∷ xs) (y ∷ ys) = eqb x y && same xs ys
 
 abbrev pub agrees : Rows → (State → List Line → Bool) → State → Outcome → List Line → Bool
 agrees rows on st Ended [] = false
@@ -20,7 +16,7 @@ agrees rows on st Ended (End e ∷ line ∷ lines) = false
 agrees rows on st (Silent st') lines = on st' lines
 agrees rows on st (Found q st') [] = false
 agrees rows on st (Found q st') (Ring r e locks ∷ lines) =
-    (same q r && (eqb st'.entries e && same (take (length rows) st'.locks) locks)) && on st' lines
+    (bytes_eq q r && (eqb st'.entries e && bytes_eq (take (length rows) st'.locks) locks)) && on st' lines
 agrees rows on st (Found q st') (End e ∷ lines) = false
 
 -- the run from st shows the lines, within so many steps
@@ -32,11 +28,7 @@ abbrev pub case_test : Case → Bool
 case_test c =
     rows_test c.rows && ((leb 2 c.bound && leb c.bound 16) && run_test 1000 c.rows c.bound opening c.lines)
 
-abbrev pub table_test : List Case → Bool
-table_test [] = true
-table_test (c ∷ cs) = case_test c && table_test cs
-
-pub table_passes : table_test cases ≡ true
+pub table_passes : list_all case_test cases ≡ true
 unfolding run_test release_within
 table_passes = refl
 

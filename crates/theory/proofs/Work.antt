@@ -1,7 +1,9 @@
 -- How many steps a search takes at most, if no lock holds it back: with each step there are fewer.
 -- Assumes nothing.
 use Rattle.std.proofs.Common.{◌≡◌, ℕ, zero, suc, ◌+◌, ◌-◌, ◌<◌, ◌≤◌, Bool, true, false, ltb, List, [], ◌∷◌, length, get_or, drop, refl, ap, ◌∙◌, arith}
-use Rattle.std.proofs.lemmas.List.{drop_more, drop_all}
+use Rattle.std.specs.List.{sum_by}
+use Rattle.std.proofs.lemmas.List.{drop_all}
+use Rattle.std.proofs.lemmas.List.Sums.{sum_by-drop_more}
 use Rattle.std.proofs.lemmas.Bool.{ltb-true, ltb-false}
 use Rattle.exchange.specs.Rows.{Rows, row}
 use Rattle.theory.specs.Search.{Waiters, Frame, State, Silent, has_wish, wish, may_enter, on_wish, on_path, on_root, used_up, step}
@@ -9,18 +11,14 @@ use Rattle.theory.specs.Theorems.{Falls, Ends}
 use Rattle.theory.proofs.Remaining.{later, at}
 use Rattle.theory.proofs.Blocking.{may}
 
-abbrev sum_of : (ℕ → ℕ) → List ℕ → ℕ
-sum_of f [] = 0
-sum_of f (x ∷ xs) = f x + sum_of f xs
-
 -- the steps for one wish, with all that may be entered from it, at most j boats deep
 abbrev cost : Rows → ℕ → ℕ → ℕ
 cost rows zero w = 1
-cost rows (suc j) w = (sum_of (cost rows j) (row rows w) + 1) + 1
+cost rows (suc j) w = (sum_by (cost rows j) (row rows w) + 1) + 1
 
 -- those for the wishes ws of a boat, and to leave the boat
 abbrev work : Rows → ℕ → List ℕ → ℕ
-work rows j ws = sum_of (cost rows j) ws + 1
+work rows j ws = sum_by (cost rows j) ws + 1
 
 abbrev work_roots : Rows → ℕ → ℕ → ℕ → ℕ
 work_roots rows k i zero = 0
@@ -41,7 +39,7 @@ cost_some rows (suc j) w = omega arith
 
 work_pull : (rows : Rows) (j : ℕ) (ws : List ℕ) (i : ℕ) → i < length ws →
     work rows j (drop i ws) ≡ cost rows j (get_or ws i 0) + work rows j (drop (i + 1) ws)
-work_pull rows j ws i h = let e = ap (λ x. work rows j x) (drop_more ws i 0 h) in omega arith
+work_pull rows j ws i h = omega (arith, sum_by-drop_more (cost rows j) ws i 0 h)
 
 module _ (rows : Rows) (k : ℕ) where
   abbrev left : State → ℕ

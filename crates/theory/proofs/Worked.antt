@@ -1,23 +1,18 @@
 -- What the test of the worked rows tells.
 -- Assumes nothing.
-use Rattle.std.proofs.Common.{◌≡◌, ℕ, zero, suc, Bool, true, false, ◌&&◌, eqb, leb, List, [], ◌∷◌, length, take, refl, subst}
-use Rattle.std.specs.List.{AllByRecursion}
+use Rattle.std.proofs.Common.{◌≡◌, ℕ, zero, suc, Bool, true, false, ◌&&◌, eqb, leb, List, [], ◌∷◌, length, get_or, take, refl, subst}
+use Rattle.std.specs.Str.{bytes_eq}
+use Rattle.std.proofs.lemmas.Slice.Eq.{bytes_eq-Decides}
+use Rattle.std.proofs.lemmas.List.Elements.{recursion_from_All}
+use Rattle.std.proofs.lemmas.List.Sums.{AllPass-from_list_all}
 use Rattle.std.proofs.lemmas.Bool.{eqb-true, leb-true, and_parts, both_ways}
 use Rattle.exchange.specs.Rows.{Rows}
 use Rattle.theory.specs.Search.{State, Outcome, Ended, Silent, Found, opening, step}
 use Rattle.theory.specs.Runs.{stays, goes as run_goes, finds as run_finds, Hands}
 use Rattle.theory.specs.Worked.{Line, Ring, End, Shows, ends, goes, finds, rings_of, Case, Holds, cases, counted_to, capped, Worked}
 use Rattle.theory.proofs.WellFormed.{rows_test, well_formed}
-use Rattle.theory.proofs.Table.{same, agrees, run_test, case_test, table_test, table_passes, cap_passes}
+use Rattle.theory.proofs.Table.{agrees, run_test, case_test, table_passes, cap_passes}
 use Rattle.theory.proofs.Main.{complete}
-
-same_true : (xs ys : List ℕ) → same xs ys ≡ true → xs ≡ ys
-same_true [] [] e = refl
-same_true [] (y ∷ ys) e = absurd (both_ways false refl e)
-same_true (x ∷ xs) [] e = absurd (both_ways false refl e)
-same_true (x ∷ xs) (y ∷ ys) e =
-    let p = and_parts (eqb x y) (same xs ys) e in
-    λ i. eqb-true x y p.0 i ∷ same_true xs ys p.1 i
 
 module _ (rows : Rows) (k : ℕ) where
   told : (on : State → List Line → Bool) → ((st : State) (lines : List Line) → on st lines ≡ true → Shows rows k st lines) →
@@ -31,11 +26,11 @@ module _ (rows : Rows) (k : ℕ) where
   told on more st (Found q st') (End f ∷ lines) s e = absurd (both_ways false refl e)
   told on more st (Found q st') (Ring r f locks ∷ lines) s e =
       let seen : List ℕ = take (length rows) st'.locks in
-      let a = and_parts (same q r && (eqb st'.entries f && same seen locks)) (on st' lines) e in
-      let b = and_parts (same q r) (eqb st'.entries f && same seen locks) a.0 in
-      let c = and_parts (eqb st'.entries f) (same seen locks) b.1 in
+      let a = and_parts (bytes_eq q r && (eqb st'.entries f && bytes_eq seen locks)) (on st' lines) e in
+      let b = and_parts (bytes_eq q r) (eqb st'.entries f && bytes_eq seen locks) a.0 in
+      let c = and_parts (eqb st'.entries f) (bytes_eq seen locks) b.1 in
       let line : Ring q st'.entries seen ≡ Ring r f locks =
-      λ i. Ring (same_true q r b.0 i) (eqb-true st'.entries f c.0 i) (same_true seen locks c.1 i) in
+      λ i. Ring ((bytes_eq-Decides q r).0 b.0 i) (eqb-true st'.entries f c.0 i) ((bytes_eq-Decides seen locks).0 c.1 i) in
       subst (λ x. Shows rows k st (x ∷ lines)) line (finds s (more st' lines a.1))
 
   shown : (fuel : ℕ) (st : State) (lines : List Line) → run_test fuel rows k st lines ≡ true → Shows rows k st lines
@@ -63,13 +58,9 @@ case_holds c e =
           (rings_of c.lines)).1 (handed c.rows c.bound shows);
     }
 
-table_holds : (cs : List Case) → table_test cs ≡ true → AllByRecursion Holds cs
-table_holds [] e = tt
-table_holds (c ∷ cs) e = let p = and_parts (case_test c) (table_test cs) e in (case_holds c p.0, table_holds cs p.1)
-
 pub worked : Worked
 worked =
     record {
-      table = table_holds cases table_passes;
+      table = recursion_from_All Holds cases (λ i d l. case_holds (get_or cases i d) (AllPass-from_list_all case_test cases table_passes i d l));
       cap = shown capped.rows capped.bound 1000 (counted_to 4294967293) capped.lines cap_passes;
     }
