@@ -8,10 +8,11 @@ use Rattle.std.proofs.lemmas.List.Sums.{AllPass-from_list_all}
 use Rattle.std.proofs.lemmas.Bool.{eqb-true, leb-true, and_parts, both_ways}
 use Rattle.exchange.specs.Rows.{Rows}
 use Rattle.theory.specs.Search.{State, Outcome, Ended, Silent, Found, opening, step}
-use Rattle.theory.specs.Runs.{stays, goes as run_goes, finds as run_finds, Hands}
+use Rattle.theory.specs.Runs.{Hands}
 use Rattle.theory.specs.Worked.{Line, Ring, End, Shows, ends, goes, finds, rings_of, Case, Holds, cases, counted_to, capped, Worked}
 use Rattle.theory.proofs.WellFormed.{rows_test, well_formed}
 use Rattle.theory.proofs.Table.{agrees, run_test, case_test, table_passes, cap_passes}
+use Rattle.theory.proofs.Runs.{before}
 use Rattle.theory.proofs.Main.{complete}
 
 module _ (rows : Rows) (k : ℕ) where
@@ -40,9 +41,9 @@ module _ (rows : Rows) (k : ℕ) where
 
   -- a run that shows lines hands out their rings
   handed : {st : State} {lines : List Line} → Shows rows k st lines → Hands rows k st (rings_of lines)
-  handed (ends {st = st} s) = record { last = st; run = stays; ended = s }
-  handed (goes s more) = let h = handed more in record { last = h.last; run = run_goes s h.run; ended = h.ended }
-  handed (finds s more) = let h = handed more in record { last = h.last; run = run_finds s h.run; ended = h.ended }
+  handed (ends s) = before rows k _ [] Ended s refl
+  handed (goes s more) = before rows k _ _ _ s (handed more)
+  handed (finds s more) = before rows k _ _ _ s (_, refl, handed more)
 
 case_holds : (c : Case) → case_test c ≡ true → Holds c
 case_holds c e =
