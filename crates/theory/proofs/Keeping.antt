@@ -1,6 +1,6 @@
 -- The invariant is kept as boats are entered, move on and leave.
 -- Assumes nothing.
-use Rattle.std.proofs.Common.{◌≡◌, ℕ, ◌+◌, ◌<◌, ◌≤◌, true, false, ◌≢◌, List, [], ◌∷◌, length, get_or, take, set, sym, refl, ap, ◌∙◌, subst, inr, ⊎_elim, arith, length-set}
+use Rattle.std.proofs.Common.{◌≡◌, ℕ, ◌+◌, ◌<◌, ◌≤◌, true, false, ◌≢◌, List, [], ◌∷◌, length, get_or, take, set, refl, ap, ◌∙◌, subst, inr, ⊎_elim, arith, rules, length-set}
 use lib.ListN.{length-replicate}
 use Rattle.std.proofs.lemmas.List.{get_or-set_same, get_or-set_other, take_all, take_more}
 use Rattle.std.proofs.lemmas.Bool.{cases_eq, both_ways}
@@ -57,37 +57,22 @@ module _ (rows : Rows) (k : ℕ) (wf : WellFormed rows) (most : k ≤ 16) where
   pub passed_more : (s d : ℕ) (locks ws : List ℕ) (i : ℕ) → i < length ws → Passed k s locks d (take i ws) →
       (get_or ws i 0 ≢ s) × (s < get_or ws i 0 → d < k → lock locks (get_or ws i 0) ≤ d) → Passed k s locks d (take (i + 1) ws)
   passed_more s d locks ws i l h g w m =
-      ⊎_elim (λ a. h w a)
-      (⊎_elim (λ e. subst (λ z. (z ≢ s) × (s < z → d < k → lock locks z ≤ d)) (sym e) g) (λ a. absurd a))
-      (in_cases w (take i ws) (get_or ws i 0 ∷ []) (subst (λ z. w ∈ z) (take_more ws i 0 l) m))
+      let c = in_cases w (take i ws) (get_or ws i 0 ∷ []) (subst (λ z. w ∈ z) (take_more ws i 0 l) m) in grind (arith, h w)
 
   module _ (s : ℕ) (f : Frame) (p : List Frame) (locks : List ℕ) (waiters : Waiters) (e : ℕ)
       (h : Inv rows k (at s (f ∷ p) locks waiters e)) where
     -- the wish of the last boat is the root
     pub inv_found : Inv rows k (at s (marked (moved f) ∷ p) locks waiters e)
-    inv_found =
-        record {
-          long = h.long;
-          wide = h.wide;
-          short = h.short;
-          depths = h.depths;
-          seen = λ q. absurd (both_ways true q refl);
-          blocked = h.blocked;
-        }
+    inv_found = search rules
 
     -- the wish of the last boat is passed by
     pub inv_passed : f.place < length (row rows f.boat) →
         (wish rows f ≢ s) × (s < wish rows f → length (f ∷ p) < k → lock locks (wish rows f) ≤ length (f ∷ p)) →
         Inv rows k (at s (moved f ∷ p) locks waiters e)
     inv_passed l g =
-        record {
-          long = h.long;
-          wide = h.wide;
-          short = h.short;
-          depths = h.depths;
-          seen = λ q. (passed_more s (length (f ∷ p)) locks (row rows f.boat) f.place l (h.seen q).0 g, (h.seen q).1);
-          blocked = h.blocked;
-        }
+        let seen : Seen rows k s locks (moved f ∷ p) =
+        λ q. (passed_more s (length (f ∷ p)) locks (row rows f.boat) f.place l (h.seen q).0 g, (h.seen q).1) in
+        search rules
 
     -- the last boat leaves and becomes a waiter
     pub inv_waits : f.found ≡ false → length (row rows f.boat) ≤ f.place →
@@ -99,6 +84,8 @@ module _ (rows : Rows) (k : ℕ) (wf : WellFormed rows) (most : k ≤ 16) where
         let short : length (f ∷ p) ≤ k = h.short in
         let long : length locks ≡ 256 = h.long in
         let small : v < length locks = locked_in locks v (omega arith) in
+        let seen : Passed k s locks (length (f ∷ p)) ws =
+        subst (λ y. Passed k s locks (length (f ∷ p)) y) (take_all f.place ws l) (h.seen unfound).0 in
         let r = waited s v ws waiters (in_row v) (omega arith) h.wide in
         record {
           long = h.long;
@@ -106,22 +93,7 @@ module _ (rows : Rows) (k : ℕ) (wf : WellFormed rows) (most : k ≤ 16) where
           short = omega arith;
           depths = h.depths.1;
           seen = (h.seen unfound).1;
-          blocked = λ u off low w i. ⊎_elim
-              (λ z.
-              let i' : w ∈ ws = subst (λ y. w ∈ row rows y) z i in
-              let same : lock locks u ≡ lock locks v = ap (λ y. lock locks y) z in
-              let c = (h.seen unfound).0 w (subst (λ y. w ∈ y) (sym (take_all f.place ws l)) i') in (
-                c.0,
-                λ above room.
-                    let a = c.1 above (omega arith) in (
-                      omega arith,
-                      rw z (r.does w i' (omega arith)),
-                    ),
-              ))
-              (λ z.
-              let c = h.blocked u (⊎_elim z off) low w i in
-              (c.0, λ above room. let d = c.1 above room in (d.0, r.keeps w u d.1)))
-              (cases_eq u v);
+          blocked = λ u off low w i. grind (arith, seen w, h.blocked u, r.does w, r.keeps w u, cases_eq u v);
         }
 
   -- the last boat leaves and is released; g is the boat before it
@@ -152,15 +124,6 @@ module _ (rows : Rows) (k : ℕ) (wf : WellFormed rows) (most : k ≤ 16) where
         blocked = λ u off low w i.
             let out : ¬ (u ∈ o) = ⊎_elim (λ z. let b : lock m u ≡ lock m v = ap (λ y. lock m y) z in omega arith) off in
             let same : lock m u ≡ lock locks u = ⊎_elim (λ a. a) (λ a. let b = a.0 in absurd (omega arith)) (r.freed.only u) in
-            let b = h.blocked u out (omega arith) w i in (
-              b.0,
-              λ above room.
-                  let c = b.1 above (omega arith) in
-                  let d : lock locks w ≤ lock locks u + 1 = c.0 in (
-                    ⊎_elim (λ a. omega arith)
-                        (λ a. let x = r.freed.closed w (omega arith) (omega arith) u c.1 out in absurd (omega arith))
-                        (r.freed.only w),
-                    c.1,
-                  ),
-            );
+            let b = h.blocked u out (omega arith) w i in
+            grind (arith, r.freed.only w, r.freed.closed w);
       }
