@@ -1,6 +1,6 @@
 -- Entries, depths, passed wishes and blocked boats, as the locks change; and that no ring is in the reach of a blocked boat.
 -- Assumes nothing.
-use Rattle.std.proofs.Common.{◌≡◌, ℕ, zero, suc, ◌+◌, ◌<◌, ◌≤◌, true, false, List, [], ◌∷◌, length, take, set, refl, ap, ◌∙◌, inl, inr, arith}
+use Rattle.std.proofs.Common.{◌≡◌, ℕ, zero, suc, ◌+◌, ◌<◌, ◌≤◌, true, false, List, [], ◌∷◌, length, take, set, refl, ◌∙◌, inl, inr, arith}
 use Rattle.std.proofs.lemmas.List.{get_or-set_other, get_or_past}
 use Rattle.std.proofs.lemmas.Bool.Decides.{nat_tests}
 use Rattle.exchange.specs.Rows.{Rows, row, ◌∈◌}
@@ -23,8 +23,7 @@ may_not k s d locks w e above room = grind (arith, nat_tests)
 
 pub depth_below : (locks : List ℕ) (p : List Frame) → Depths locks p → (x : ℕ) → x ∈ boats p → lock locks x < length p
 depth_below locks [] h x m = absurd m
-depth_below locks (f ∷ p) h x (inl e) = let here = h.0 in let same : lock locks x ≡ lock locks f.boat = ap (λ z. lock locks z) e in omega arith
-depth_below locks (f ∷ p) h x (inr m) = let g : lock locks x < length p = depth_below locks p h.1 x m in omega arith
+depth_below locks (f ∷ p) h x m = grind (arith, depth_below locks p h.1 x)
 
 pub depths_kept : (l m : List ℕ) (p : List Frame) → ((x : ℕ) → x ∈ boats p → lock m x ≡ lock l x) → Depths l p → Depths m p
 depths_kept l m [] s h = tt
@@ -34,8 +33,7 @@ pub locked_in : (locks : List ℕ) (v : ℕ) → lock locks v < free → v < len
 locked_in locks v h = grind (arith, get_or_past)
 
 pub passed_lower : (k s d : ℕ) (l m ws : List ℕ) → ((x : ℕ) → lock m x ≤ lock l x) → Passed k s l d ws → Passed k s m d ws
-passed_lower k s d l m ws low h w i =
-    ((h w i).0, λ a b. let e : lock m w ≤ lock l w = low w in let g : lock l w ≤ d = (h w i).1 a b in omega arith)
+passed_lower k s d l m ws low h w i = grind (arith, h w, low w)
 
 pub seen_lower : (rows : Rows) (k s : ℕ) (l m : List ℕ) (p : List Frame) → ((x : ℕ) → lock m x ≤ lock l x) →
     Seen rows k s l p → Seen rows k s m p
@@ -54,9 +52,7 @@ pub blocked_enter : (rows : Rows) (k s : ℕ) (l : List ℕ) (waiters : Waiters)
     d ≤ lock l f.boat → Blocked rows k s l waiters p → Blocked rows k s (set l f.boat d) waiters (f ∷ p)
 blocked_enter rows k s l waiters p f d h b v n a w i =
     let e : lock (set l f.boat d) v ≡ lock l v = get_or-set_other l f.boat v d free (λ z. n (inl z)) in
-    let g = b v (λ z. n (inr z)) (omega arith) w i in
-    let low : lock (set l f.boat d) w ≤ lock l w = set_lower l f.boat d h w in
-    (g.0, λ x y. let q = g.1 x (omega arith) in let r : lock l w ≤ lock l v + 1 = q.0 in (omega arith, q.1))
+    grind (arith, b v, set_lower l f.boat d h w)
 
 -- from a blocked boat no ring is found in its reach
 module _ (rows : Rows) (k s : ℕ) (l : List ℕ) (waiters : Waiters) (p : List Frame) (b : Blocked rows k s l waiters p) where

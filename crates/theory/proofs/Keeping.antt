@@ -1,6 +1,6 @@
 -- The invariant is kept as boats are entered, move on and leave.
 -- Assumes nothing.
-use Rattle.std.proofs.Common.{◌≡◌, ℕ, ◌+◌, ◌<◌, ◌≤◌, true, false, ◌≢◌, List, [], ◌∷◌, length, get_or, take, set, refl, ap, ◌∙◌, subst, inr, ⊎_elim, arith, rules, length-set}
+use Rattle.std.proofs.Common.{◌≡◌, ℕ, ◌+◌, ◌<◌, ◌≤◌, true, false, ◌≢◌, List, [], ◌∷◌, length, get_or, take, set, refl, ◌∙◌, subst, inr, arith, rules, length-set}
 use lib.ListN.{length-replicate}
 use Rattle.std.proofs.lemmas.List.{get_or-set_same, get_or-set_other, take_all, take_more}
 use Rattle.std.proofs.lemmas.Bool.{cases_eq, both_ways}
@@ -115,15 +115,10 @@ module _ (rows : Rows) (k : ℕ) (wf : WellFormed rows) (most : k ≤ 16) where
         wide = h.wide;
         short = omega arith;
         depths = depths_kept locks m (g ∷ p)
-            (λ x i. stays waiters o v locks 256 deep x (inr i) (λ z.
-            let a = depth_below locks (g ∷ p) h.depths.1 x i in
-            let b : lock locks x ≡ lock locks v = ap (λ y. lock locks y) z in
-            omega arith))
+            (λ x i.
+            let a = depth_below locks (g ∷ p) h.depths.1 x i in stays waiters o v locks 256 deep x (inr i) (λ z. grind arith))
             h.depths.1;
         seen = λ q. absurd (both_ways true q refl);
         blocked = λ u off low w i.
-            let out : ¬ (u ∈ o) = ⊎_elim (λ z. let b : lock m u ≡ lock m v = ap (λ y. lock m y) z in omega arith) off in
-            let same : lock m u ≡ lock locks u = ⊎_elim (λ a. a) (λ a. let b = a.0 in absurd (omega arith)) (r.freed.only u) in
-            let b = h.blocked u out (omega arith) w i in
-            grind (arith, r.freed.only w, r.freed.closed w);
+            grind (arith, h.blocked u, r.freed.only u, r.freed.only w, r.freed.closed w);
       }
