@@ -124,15 +124,15 @@ module _ (rows : Rows) (k : ℕ) where
   roots_only i (suc m) r h =
       ⊎_elim
       (λ g. (i, omega arith, g))
-      (λ g. let o = roots_only (suc i) m r g in let later = o.1 in (o.0, omega arith, o.2))
-      (in_cases r (of_root rows i (k - 1)) (from_roots rows k (suc i) m) h)
+      (λ g. let o = roots_only (i + 1) m r g in let later = o.1 in (o.0, omega arith, o.2))
+      (in_cases r (of_root rows i (k - 1)) (from_roots rows k (i + 1) m) h)
 
   roots_each : (i m s : ℕ) (r : List ℕ) → i ≤ s → s < i + m → r ∈ of_root rows s (k - 1) → r ∈ from_roots rows k i m
   roots_each i zero s r a b h = absurd (omega arith)
   roots_each i (suc m) s r a b h =
       ⊎_elim
-      (λ e. in_left r (of_root rows i (k - 1)) (from_roots rows k (suc i) m) (subst (λ z. r ∈ of_root rows z (k - 1)) (sym e) h))
-      (λ n. in_right r (of_root rows i (k - 1)) (from_roots rows k (suc i) m) (roots_each (suc i) m s r (omega arith) (omega arith) h))
+      (λ e. in_left r (of_root rows i (k - 1)) (from_roots rows k (i + 1) m) (subst (λ z. r ∈ of_root rows z (k - 1)) (sym e) h))
+      (λ n. in_right r (of_root rows i (k - 1)) (from_roots rows k (i + 1) m) (roots_each (i + 1) m s r (omega arith) (omega arith) h))
       (cases_eq i s)
 
   root_first : (s : ℕ) (r : List ℕ) → r ∈ of_root rows s (k - 1) → first r ≡ s
@@ -141,10 +141,10 @@ module _ (rows : Rows) (k : ℕ) where
   roots_sorted : (i m : ℕ) → Sorted (Before rows) (from_roots rows k i m)
   roots_sorted i zero = tt
   roots_sorted i (suc m) =
-      sorted-append (Before rows) (of_root rows i (k - 1)) (from_roots rows k (suc i) m)
-      (root_sorted rows i (k - 1)) (roots_sorted (suc i) m)
+      sorted-append (Before rows) (of_root rows i (k - 1)) (from_roots rows k (i + 1) m)
+      (root_sorted rows i (k - 1)) (roots_sorted (i + 1) m)
       (λ x y g h.
-      let o = roots_only (suc i) m y h in
+      let o = roots_only (i + 1) m y h in
       let later = o.1 in
       inl (omega (arith, root_first i x g, root_first o.0 y o.2)))
 

@@ -1,6 +1,6 @@
 -- What each kind of step does to what remains.
 -- Assumes nothing.
-use Rattle.std.proofs.Common.{◌≡◌, ℕ, suc, ◌+◌, ◌-◌, ◌<◌, ◌≤◌, List, [], ◌∷◌, ◌++◌, reverse, length, drop, sym, ap, ◌∙◌, append_assoc, append-nil, arith}
+use Rattle.std.proofs.Common.{◌≡◌, ℕ, suc, ◌+◌, ◌-◌, ◌<◌, ◌≤◌, List, [], ◌∷◌, ◌++◌, reverse, length, drop, refl, ap, ◌∙◌, append_assoc, append-nil, arith}
 use Rattle.std.proofs.lemmas.List.{drop_more, drop_all}
 use Rattle.exchange.specs.Rows.{Rows, row, ◌∈◌}
 use Rattle.theory.specs.Search.{Frame, boats, wish, moved}
@@ -13,10 +13,8 @@ module _ (rows : Rows) (k s : ℕ) where
       ≡ (onward rows s (k - 1 - 0) (s ∷ []) (row rows s) ++ []) ++ from_roots rows k (s + 1) (length rows - (s + 1))
   remains_root h =
       let e : length rows - s ≡ suc (length rows - (s + 1)) = omega arith in
-      let g : suc s ≡ s + 1 = omega arith in
-      let z : k - 1 ≡ k - 1 - 0 = omega arith in
-      ap (λ m. from_roots rows k s m) e
-      ∙ (λ i. sym (append-nil (onward rows s (z i) (s ∷ []) (row rows s))) i ++ from_roots rows k (g i) (length rows - (s + 1)))
+      let z : k - 1 - 0 ≡ k - 1 = omega arith in
+      rw (e, append-nil, z) refl
 
   -- what remains, where the rings x go on from the last boat of the path and p are the boats before it
   abbrev pub behind : List Frame → List (List ℕ) → List (List ℕ)
@@ -46,20 +44,18 @@ module _ (rows : Rows) (k s : ℕ) where
     split l = ap (λ x. onward rows s j path x) (drop_more ws f.place 0 l)
 
     pub remains_ring : f.place < length ws → w ≡ s → behind p here ≡ reverse path ∷ behind p later
-    remains_ring l e = ap (behind p) (split l ∙ ap (λ x. x ++ later) (choose_back s path w (deeper rows s j path w) e))
+    remains_ring l e = rw (split l, choose_back s path w (deeper rows s j path w) e) refl
 
     pub remains_passed : f.place < length ws → part rows s j path w ≡ [] → behind p here ≡ behind p later
-    remains_passed l e = ap (behind p) (split l ∙ ap (λ x. x ++ later) e)
+    remains_passed l e = rw (split l, e) refl
 
     pub remains_entered : f.place < length ws → s < w → ¬ (w ∈ path) → length (f ∷ p) < k →
         behind p here ≡ behind (moved f ∷ p) (onward rows s (k - 1 - length (f ∷ p)) (w ∷ path) (row rows w))
     remains_entered l above off room =
-        let i : ℕ = k - 1 - length (f ∷ p) in
-        let ji : j ≡ suc i = omega arith in
-        let on = choose_on s path w (deeper rows s j path w) above off in
-        ap (behind p) (split l ∙ ap (λ x. x ++ later) (on ∙ ap (λ x. deeper rows s x path w) ji))
-        ∙ ap (λ x. x ++ from_roots rows k (s + 1) (length rows - (s + 1)))
-        (append_assoc (onward rows s i (w ∷ path) (row rows w)) later (on_frames rows k s p))
+        let ji : j ≡ suc (k - 1 - length (f ∷ p)) = omega arith in
+        let e : part rows s j path w ≡ onward rows s (k - 1 - length (f ∷ p)) (w ∷ path) (row rows w) =
+        choose_on s path w (deeper rows s j path w) above off ∙ ap (λ x. deeper rows s x path w) ji in
+        rw (split l, e) (simp append_assoc)
 
     pub remains_left : length ws ≤ f.place → behind p here ≡ behind p []
-    remains_left l = ap (λ x. behind p (onward rows s j path x)) (drop_all f.place ws l)
+    remains_left l = rw (drop_all f.place ws l) refl

@@ -39,7 +39,7 @@ module _ (s : ℕ) (path : List ℕ) (w : ℕ) (on : List (List ℕ)) where
 -- the rings of the first boats i, i + 1, .., m of them
 abbrev pub from_roots : Rows → ℕ → ℕ → ℕ → List (List ℕ)
 from_roots rows k i zero = []
-from_roots rows k i (suc m) = onward rows i (k - 1) (i ∷ []) (row rows i) ++ from_roots rows k (suc i) m
+from_roots rows k i (suc m) = onward rows i (k - 1) (i ∷ []) (row rows i) ++ from_roots rows k (i + 1) m
 
 -- the rings that go on from a boat of the path by a wish that it has not come to yet
 abbrev pub on_frames : Rows → ℕ → ℕ → List Frame → List (List ℕ)

@@ -1,6 +1,6 @@
 -- How many steps a search takes at most, if no lock holds it back: with each step there are fewer.
 -- Assumes nothing.
-use Rattle.std.proofs.Common.{◌≡◌, ℕ, zero, suc, ◌+◌, ◌-◌, ◌<◌, ◌≤◌, Bool, true, false, ltb, List, [], ◌∷◌, length, get_or, drop, refl, ap, ◌∙◌, arith}
+use Rattle.std.proofs.Common.{◌≡◌, ℕ, zero, suc, ◌+◌, ◌-◌, ◌<◌, ◌≤◌, Bool, true, false, ltb, List, [], ◌∷◌, length, get_or, drop, refl, ap, arith}
 use Rattle.std.specs.List.{sum_by}
 use Rattle.std.proofs.lemmas.List.{drop_all}
 use Rattle.std.proofs.lemmas.List.Sums.{sum_by-drop_more}
@@ -22,7 +22,7 @@ work rows j ws = sum_by (cost rows j) ws + 1
 
 abbrev work_roots : Rows → ℕ → ℕ → ℕ → ℕ
 work_roots rows k i zero = 0
-work_roots rows k i (suc m) = (work rows (k - 1) (row rows i) + 1) + work_roots rows k (suc i) m
+work_roots rows k i (suc m) = (work rows (k - 1) (row rows i) + 1) + work_roots rows k (i + 1) m
 
 abbrev work_frames : Rows → ℕ → List Frame → ℕ
 work_frames rows k [] = 0
@@ -50,9 +50,8 @@ module _ (rows : Rows) (k : ℕ) where
       ≡ (work rows (k - 1 - 0) (row rows i) + 1) + work_roots rows k (i + 1) (length rows - (i + 1))
   roots_pull i h =
       let e : length rows - i ≡ suc (length rows - (i + 1)) = omega arith in
-      let g : suc i ≡ i + 1 = omega arith in
-      let z : k - 1 ≡ k - 1 - 0 = omega arith in
-      ap (λ m. work_roots rows k i m) e ∙ (λ d. (work rows (z d) (row rows i) + 1) + work_roots rows k (g d) (length rows - (i + 1)))
+      let z : k - 1 - 0 ≡ k - 1 = omega arith in
+      rw (e, z) refl
 
   root_falls : (s : ℕ) (locks : List ℕ) (waiters : Waiters) (e : ℕ) (b : Bool) → ltb s (length rows) ≡ b →
       Falls left (at s [] locks waiters e) (on_root b (at s [] locks waiters e))
