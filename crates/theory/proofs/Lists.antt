@@ -1,6 +1,6 @@
 -- Lists: what stands in them, lists joined end to end, sorted lists.
 -- Assumes nothing.
-use Rattle.std.proofs.Common.{◌≡◌, ℕ, zero, suc, ◌<◌, true, false, ◌⊎◌, List, [], ◌∷◌, ◌++◌, length, get_or, set, replicate, refl, subst, inl, inr, ⊎_elim, arith, rules}
+use Rattle.std.proofs.Common.{◌≡◌, ℕ, zero, suc, ◌<◌, true, false, ◌⊎◌, List, [], ◌∷◌, ◌++◌, length, get_or, set, replicate, refl, inl, inr, ⊎_elim, arith, rules}
 use Rattle.std.specs.List.{AllByRecursion, flat_map}
 use Rattle.std.proofs.lemmas.List.{get_or-set_same, get_or-set_other, set_past, get_or_past}
 use Rattle.std.proofs.lemmas.Bool.{cases_eq, cases_lt}
@@ -56,8 +56,8 @@ fresh_not before (y ∷ ys) x f b h = grind (arith, fresh_not (y ∷ before) ys 
 
 pub in_flat_map : {X A : Type 0} (f : X → List A) (ws : List X) (r : A) (w : X) → w ∈ ws → r ∈ f w → r ∈ flat_map f ws
 in_flat_map f [] r w h k = absurd h
-in_flat_map f (x ∷ ws) r w (inl e) k = in_left r (f x) (flat_map f ws) (subst (λ y. r ∈ f y) e k)
-in_flat_map f (x ∷ ws) r w (inr h) k = in_right r (f x) (flat_map f ws) (in_flat_map f ws r w h k)
+in_flat_map f (x ∷ ws) r w h k =
+    grind (arith, in_left r (f x) (flat_map f ws), in_right r (f x) (flat_map f ws), in_flat_map f ws r w)
 
 pub flat_map_in : {X A : Type 0} (f : X → List A) (ws : List X) (r : A) → r ∈ flat_map f ws → (w : X) × (w ∈ ws) × (r ∈ f w)
 flat_map_in f [] r h = absurd h

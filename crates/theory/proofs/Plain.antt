@@ -130,10 +130,9 @@ module _ (rows : Rows) (k : ℕ) where
   roots_each : (i m s : ℕ) (r : List ℕ) → i ≤ s → s < i + m → r ∈ of_root rows s (k - 1) → r ∈ from_roots rows k i m
   roots_each i zero s r a b h = absurd (omega arith)
   roots_each i (suc m) s r a b h =
-      ⊎_elim
-      (λ e. in_left r (of_root rows i (k - 1)) (from_roots rows k (i + 1) m) (subst (λ z. r ∈ of_root rows z (k - 1)) (sym e) h))
-      (λ n. in_right r (of_root rows i (k - 1)) (from_roots rows k (i + 1) m) (roots_each (i + 1) m s r (omega arith) (omega arith) h))
-      (cases_eq i s)
+      let here = in_left r (of_root rows i (k - 1)) (from_roots rows k (i + 1) m) in
+      let behind = in_right r (of_root rows i (k - 1)) (from_roots rows k (i + 1) m) in
+      grind (arith, here, behind, roots_each (i + 1) m s r, cases_eq i s)
 
   root_first : (s : ℕ) (r : List ℕ) → r ∈ of_root rows s (k - 1) → first r ≡ s
   root_first s r h = ap (λ z. first z) (root_only rows s (k - 1) r h).1
