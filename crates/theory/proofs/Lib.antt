@@ -1,6 +1,6 @@
--- The worked rows are computed first. Then: there is one full list (Unique), and plain search gives it (Plain). A release frees what
--- is reached (Release, Closure). Each step keeps the invariant (Waiting, Blocking, Keeping) and works off what remains (Progress),
--- so that the rule hands out what plain search gives (Steps, Work, Runs, Main).
+-- There is one full list (Unique), and plain search gives it (Plain). A release frees what is reached (Release, Closure).
+-- Each step keeps the invariant (Waiting, Blocking, Keeping) and works off what remains (Progress), so that the rule hands out
+-- what plain search gives (Steps, Work, Runs, Main). The worked rows are computed (WellFormed, Table, Worked).
 pub mod Lists
 pub mod WellFormed
 pub mod Table

@@ -1,4 +1,4 @@
--- What a release leaves: it frees boats that are reached from the released one, and what it frees is closed under waiters off the path.
+-- What a release leaves: it frees boats that are reached from the released one, with their waiters off the path.
 -- Assumes nothing.
 use Rattle.std.proofs.Common.{◌≡◌, ℕ, zero, suc, ◌+◌, ◌<◌, ◌≤◌, Bool, true, false, ltb, ◌≢◌, ◌⊎◌, List, [], ◌∷◌, length, get_or, set, sym, refl, ◌∙◌, subst, inl, ⊎_elim, arith, length-set}
 use Rattle.std.specs.List.{count_by}
@@ -154,9 +154,10 @@ module _ (waiters : Waiters) (path : List ℕ) (base : List ℕ) (r : ℕ) where
       first_freed v l (set l v free) near (freed_none (set l v free)) (λ u c d. none_finite (set l v free) (omega arith) u)
   released (suc depth) v l near under n =
       let o : List ℕ = set l v free in
-      let a = marks_all (suc depth) (λ w now. visit (held path now w) (release_within depth waiters path w) now) 0 (get_or waiters v [])
+      let on : ℕ → List ℕ → List ℕ = release_within depth waiters path in
+      let a = marks_all (suc depth) (λ w now. visit (held path now w) (on w) now) 0 (get_or waiters v [])
       (λ j e w at now few low.
-      visited w now (release_within depth waiters path w) (held path now w) refl
+      visited w now (on w) (held path now w) refl
       (λ off locked.
       let same : j ≡ w = omega arith in
       released depth w now (then w near (subst (λ z. waits waiters v z ≡ true) same e) off (low w locked)) low

@@ -7,7 +7,7 @@ use Rattle.exchange.specs.Rows.{Rows, row, ◌∈◌, has}
 use Rattle.theory.specs.Search.{Waiters, Frame, State, boats}
 use Rattle.theory.proofs.Lists.{has_true, has_false}
 
--- the path with the step to w: back to the root s it is a ring, and to a boat that may follow it is what goes on from there
+-- the rings by the step from the path to w: the path itself where w is the root s, and `onward` where w may follow the path
 abbrev pub choose : ℕ → List ℕ → ℕ → List (List ℕ) → List (List ℕ)
 choose s path w onward = cond (eqb w s) (reverse path ∷ []) (cond (ltb s w && not (has path w)) onward [])
 

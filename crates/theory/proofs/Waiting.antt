@@ -1,6 +1,6 @@
 -- What becoming a waiter leaves.
 -- Assumes nothing.
-use Rattle.std.proofs.Common.{◌≡◌, ℕ, ◌<◌, ◌≤◌, Bool, true, false, leb, List, [], ◌∷◌, length, get_or, set, replicate, refl, ap, ◌∙◌, inl, inr, arith, length-set}
+use Rattle.std.proofs.Common.{◌≡◌, ℕ, ◌<◌, ◌≤◌, Bool, true, false, leb, List, [], ◌∷◌, length, replicate, refl, inl, inr, arith, rules, length-set}
 use Rattle.std.proofs.lemmas.List.{get_or-set_same, length-replicate}
 use Rattle.std.proofs.lemmas.List.Elements.{All-set, All-replicate}
 use Rattle.std.proofs.lemmas.Bool.{le-leb}
@@ -15,25 +15,17 @@ pub record Waits (s v : ℕ) (ws : List ℕ) (old new : Waiters) : Type 0 where
   pub keeps : (w u : ℕ) → waits old w u ≡ true → waits new w u ≡ true
   pub does : (w : ℕ) → w ∈ ws → s ≤ w → waits new w v ≡ true
 
-one_keeps : (b : Bool) (v x : ℕ) (waiters : Waiters) (w u : ℕ) → waits waiters w u ≡ true → waits (wait_one b v x waiters) w u ≡ true
+one_keeps : (b : Bool) (v x : ℕ) (waiters : Waiters) (w u : ℕ) → waits waiters w u ≡ true →
+    waits (wait_one b v x waiters) w u ≡ true
 one_keeps false v x waiters w u e = e
 one_keeps true v x waiters w u e = grind (arith, set_cases {A = Bool}, set_cases {A = List Bool})
 
 one_wide : (b : Bool) (v x : ℕ) (waiters : Waiters) → x < 256 → Wide waiters → Wide (wait_one b v x waiters)
 one_wide false v x waiters l h = h
-one_wide true v x waiters l h =
-    let row : List Bool = get_or waiters x [] in
-    let long : length row ≡ 256 = h.1 x [] (omega arith) in (
-      length-set waiters x (set row v true) ∙ h.0,
-      All-set (λ marks. length marks ≡ 256) waiters x (set row v true) (length-set row v true ∙ long) h.1,
-    )
+one_wide true v x waiters l h = search (rules, length-set, All-set)
 
 one_does : (v x : ℕ) (waiters : Waiters) → x < 256 → v < 256 → Wide waiters → waits (wait_one true v x waiters) x v ≡ true
-one_does v x waiters l n h =
-    let row : List Bool = get_or waiters x [] in
-    let long : length row ≡ 256 = h.1 x [] (omega arith) in
-    ap (λ m. get_or m v false) (get_or-set_same waiters x (set row v true) [] (omega arith))
-    ∙ get_or-set_same row v true false (omega arith)
+one_does v x waiters l n h = grind (arith, get_or-set_same, h.1 x [])
 
 pub waited : (s v : ℕ) (ws : List ℕ) (waiters : Waiters) → ((w : ℕ) → w ∈ ws → w < 256) → v < 256 → Wide waiters →
     Waits s v ws waiters (wait_each s v ws waiters)

@@ -93,7 +93,8 @@ module _ (rows : Rows) (k : ℕ) where
   used_falls s f [] locks waiters e l false = omega (arith, gone s f [] locks waiters e l)
   used_falls s f (g ∷ p) locks waiters e l false = omega (arith, gone s f (g ∷ p) locks waiters e l)
 
-  path_falls : (s : ℕ) (f : Frame) (p : List Frame) (locks : List ℕ) (waiters : Waiters) (e : ℕ) (b : Bool) → has_wish rows f ≡ b →
+  path_falls : (s : ℕ) (f : Frame) (p : List Frame) (locks : List ℕ) (waiters : Waiters) (e : ℕ) (b : Bool) →
+      has_wish rows f ≡ b →
       Falls left (at s (f ∷ p) locks waiters e) (on_path b rows k (at s (f ∷ p) locks waiters e) f p)
   path_falls s f p locks waiters e true t =
       wish_falls s f p locks waiters e (ltb-true f.place (length (row rows f.boat)) t) _ _ refl

@@ -14,7 +14,8 @@ use Rattle.theory.proofs.Main.{complete}
 
 module _ (rows : Rows) (k : ℕ) where
   told : (on : State → List Line) → ((st : State) → has_end (on st) ≡ true → Shows rows k st (on st)) →
-      (st : State) (o : Outcome) → step rows k st ≡ o → has_end (lines_of rows on st o) ≡ true → Shows rows k st (lines_of rows on st o)
+      (st : State) (o : Outcome) → step rows k st ≡ o → has_end (lines_of rows on st o) ≡ true →
+      Shows rows k st (lines_of rows on st o)
   told on more st Ended s e = ends s
   told on more st (Silent st') s e = goes s (more st' e)
   told on more st (Found r st') s e = finds s (more st' e)
