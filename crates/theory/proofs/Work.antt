@@ -1,15 +1,14 @@
 -- How many steps a search takes at most, if no lock holds it back: with each step there are fewer.
 -- Assumes nothing.
-use Rattle.std.proofs.Common.{◌≡◌, ℕ, zero, suc, ◌+◌, ◌-◌, ◌<◌, ◌≤◌, Bool, true, false, ltb, List, [], ◌∷◌, length, get_or, drop, refl, ap, arith}
+use Rattle.std.proofs.Common.{◌≡◌, ℕ, zero, suc, ◌+◌, ◌-◌, ◌<◌, List, [], ◌∷◌, length, get_or, drop, refl, arith}
 use Rattle.std.specs.List.{sum_by}
 use Rattle.std.proofs.lemmas.List.{drop_all}
 use Rattle.std.proofs.lemmas.List.Sums.{sum_by-drop_more}
-use Rattle.std.proofs.lemmas.Bool.{ltb-true, ltb-false}
+use Rattle.std.proofs.lemmas.Bool.Decides.{nat_tests}
 use Rattle.exchange.specs.Rows.{Rows, row}
-use Rattle.theory.specs.Search.{Waiters, Frame, State, Silent, has_wish, wish, may_enter, on_wish, on_path, on_root, used_up, step}
+use Rattle.theory.specs.Search.{Waiters, Frame, State, step}
 use Rattle.theory.specs.Theorems.{Falls, Ends}
 use Rattle.theory.proofs.Remaining.{later, at}
-use Rattle.theory.proofs.Blocking.{may}
 
 -- the steps for one wish, with all that may be entered from it, at most j boats deep
 abbrev cost : Rows → ℕ → ℕ → ℕ
@@ -53,58 +52,24 @@ module _ (rows : Rows) (k : ℕ) where
       let z : k - 1 - 0 ≡ k - 1 = omega arith in
       rw (e, z) refl
 
-  root_falls : (s : ℕ) (locks : List ℕ) (waiters : Waiters) (e : ℕ) (b : Bool) → ltb s (length rows) ≡ b →
-      Falls left (at s [] locks waiters e) (on_root b (at s [] locks waiters e))
-  root_falls s locks waiters e false t = tt
-  root_falls s locks waiters e true t = let less = roots_pull s (ltb-true s (length rows) t) in omega arith
+  root_falls : (s : ℕ) (locks : List ℕ) (waiters : Waiters) (e : ℕ) →
+      Falls left (at s [] locks waiters e) (step rows k (at s [] locks waiters e))
+  root_falls s locks waiters e = grind (arith, nat_tests, roots_pull s)
 
-  module _ (s : ℕ) (f : Frame) (p : List Frame) (locks : List ℕ) (waiters : Waiters) (e : ℕ) where
-    abbrev st : State
-    st = at s (f ∷ p) locks waiters e
+  -- a boat that may be entered is worth what its own wishes are
+  cost_room : (d w : ℕ) → d + 1 < k → cost rows (k - 1 - d) w ≡ work rows (k - 1 - (d + 1)) (row rows w) + 1
+  cost_room d w room = let e : k - 1 - d ≡ suc (k - 1 - (d + 1)) = omega arith in rw e refl
 
-    abbrev j : ℕ
-    j = k - 1 - length p
-
-    abbrev ws : List ℕ
-    ws = row rows f.boat
-
-    abbrev w : ℕ
-    w = wish rows f
-
-    wish_falls : f.place < length ws → (b c : Bool) → may_enter k s locks (length (f ∷ p)) w ≡ c →
-        Falls left st (on_wish b c st f p w)
-    wish_falls l true c ec = omega (arith, cost_some rows j w, work_pull rows j ws f.place l)
-    wish_falls l false true ec =
-        let i : ℕ = k - 1 - length (f ∷ p) in
-        let room = (may k s (length (f ∷ p)) locks w ec).room in
-        let ji : j ≡ suc i = omega arith in
-        let deeper : cost rows j w ≡ work rows i (row rows w) + 1 = ap (λ x. cost rows x w) ji in
-        omega (arith, work_pull rows j ws f.place l)
-    wish_falls l false false ec = omega (arith, cost_some rows j w, work_pull rows j ws f.place l)
-
-    gone : length ws ≤ f.place → work rows j (drop f.place ws) ≡ 1
-    gone l = ap (λ x. work rows j x) (drop_all f.place ws l)
-
-  used_falls : (s : ℕ) (f : Frame) (p : List Frame) (locks : List ℕ) (waiters : Waiters) (e : ℕ) →
-      length (row rows f.boat) ≤ f.place →
-      (b : Bool) → Falls left (at s (f ∷ p) locks waiters e) (Silent (used_up b rows (at s (f ∷ p) locks waiters e) f p))
-  used_falls s f [] locks waiters e l true = omega (arith, gone s f [] locks waiters e l)
-  used_falls s f (g ∷ p) locks waiters e l true = omega (arith, gone s f (g ∷ p) locks waiters e l)
-  used_falls s f [] locks waiters e l false = omega (arith, gone s f [] locks waiters e l)
-  used_falls s f (g ∷ p) locks waiters e l false = omega (arith, gone s f (g ∷ p) locks waiters e l)
-
-  path_falls : (s : ℕ) (f : Frame) (p : List Frame) (locks : List ℕ) (waiters : Waiters) (e : ℕ) (b : Bool) →
-      has_wish rows f ≡ b →
-      Falls left (at s (f ∷ p) locks waiters e) (on_path b rows k (at s (f ∷ p) locks waiters e) f p)
-  path_falls s f p locks waiters e true t =
-      wish_falls s f p locks waiters e (ltb-true f.place (length (row rows f.boat)) t) _ _ refl
-  path_falls s f p locks waiters e false t =
-      used_falls s f p locks waiters e (ltb-false f.place (length (row rows f.boat)) t) f.found
+  path_falls : (s : ℕ) (f : Frame) (p : List Frame) (locks : List ℕ) (waiters : Waiters) (e : ℕ) →
+      Falls left (at s (f ∷ p) locks waiters e) (step rows k (at s (f ∷ p) locks waiters e))
+  path_falls s f p locks waiters e =
+      let j : ℕ = k - 1 - length p in
+      grind (arith, nat_tests, cost_some rows j, work_pull rows j (row rows f.boat) f.place, cost_room (length p), drop_all f.place (row rows f.boat))
 
   at_falls : (s : ℕ) (p : List Frame) (locks : List ℕ) (waiters : Waiters) (e : ℕ) →
       Falls left (at s p locks waiters e) (step rows k (at s p locks waiters e))
-  at_falls s [] locks waiters e = root_falls s locks waiters e (ltb s (length rows)) refl
-  at_falls s (f ∷ p) locks waiters e = path_falls s f p locks waiters e (has_wish rows f) refl
+  at_falls s [] locks waiters e = root_falls s locks waiters e
+  at_falls s (f ∷ p) locks waiters e = path_falls s f p locks waiters e
 
 pub step_falls : (rows : Rows) (k : ℕ) (st : State) → Falls (work_left rows k) st (step rows k st)
 step_falls rows k st = at_falls rows k st.root st.path st.locks st.waiters st.entries
