@@ -35,7 +35,7 @@ module _ (waiters : Waiters) (path : List ℕ) (v : ℕ) (l : List ℕ) where
 
     freed : {w : ℕ} → Near w → lock m w ≡ free
     freed here = left.self
-    freed (then w c e off low) = ⊎_elim (λ a. let up = onward c w e off in absurd (omega arith)) (λ a. a.0) (left.freed.only w)
+    freed (then w c e off low) = let up = onward c w e off in let a = left.freed.only w in grind arith
 
     -- a boat on the path keeps its lock, but for v
     pub stays : (w : ℕ) → w ∈ path → w ≢ v → lock m w ≡ lock l w
@@ -53,9 +53,7 @@ module _ (waiters : Waiters) (path : List ℕ) (v : ℕ) (l : List ℕ) where
     near_or_not : (w : ℕ) → Near w ⊎ (¬ Near w)
     near_or_not w =
         ⊎_elim (λ e. inl (subst Near (sym e) here))
-        (λ n. ⊎_elim
-        (λ a. inr (λ c. ⊎_elim n (λ low. let now = freed c in omega arith) (near_locked c)))
-        (λ a. inl a.1) (left.freed.only w))
+        (λ n. ⊎_elim (λ a. inr (λ c. let now = freed c in let low = near_locked c in grind arith)) (λ a. inl a.1) (left.freed.only w))
         (cases_eq w v)
 
     frees_one : (o : List ℕ) → Frees waiters path v l o → o ≡ m

@@ -1,12 +1,12 @@
 -- Each step of the rule keeps the invariant, and does to what remains what it should.
 -- Assumes nothing.
-use Rattle.std.proofs.Common.{◌≡◌, ℕ, ◌+◌, ◌-◌, ◌<◌, ◌≤◌, Bool, true, false, eqb, ltb, List, [], ◌∷◌, length, take, set, refl, ap, arith}
+use Rattle.std.proofs.Common.{◌≡◌, ℕ, ◌+◌, ◌-◌, ◌<◌, ◌≤◌, Bool, true, false, eqb, ltb, List, [], ◌∷◌, length, take, set, refl, arith}
 use Rattle.std.proofs.lemmas.List.{get_or-set_same}
 use Rattle.std.proofs.lemmas.Bool.{eqb-true, eqb-false, ltb-true, ltb-false}
 use Rattle.exchange.specs.Rows.{Rows, row, ◌∈◌, WellFormed}
 use Rattle.theory.specs.Search.{Waiters, Frame, State, Silent, boats, lock, free, has_wish, wish, used_up, may_enter, on_wish, on_path, on_root, step, moved}
 use Rattle.theory.proofs.Lists.{in-get_or}
-use Rattle.theory.proofs.Remaining.{deeper, chosen, from_roots, at}
+use Rattle.theory.proofs.Remaining.{deeper, chosen, at}
 use Rattle.theory.proofs.Invariant.{Inv, Good}
 use Rattle.theory.proofs.Blocking.{may, may_not, depth_below, seen_lower, passed_lower, set_lower, blocked_none}
 use Rattle.theory.proofs.Progress.{remains_root, remains_ring, remains_passed, remains_entered, remains_left}
@@ -25,7 +25,7 @@ module _ (rows : Rows) (k : ℕ) (wf : WellFormed rows) (two : 2 ≤ k) (most : 
   root_good s locks waiters e h false t =
       let n = ltb-false s (length rows) t in
       let z : length rows - s ≡ 0 = omega arith in
-      ap (λ m. from_roots rows k s m) z
+      rw z refl
 
   module _ (s : ℕ) (f : Frame) (p : List Frame) (locks : List ℕ) (waiters : Waiters) (e : ℕ)
       (h : Inv rows k (at s (f ∷ p) locks waiters e)) where
@@ -46,12 +46,13 @@ module _ (rows : Rows) (k : ℕ) (wf : WellFormed rows) (two : 2 ≤ k) (most : 
     wish_good l true c eb ec = (inv_found rows k wf most s f p locks waiters e h, remains_ring rows k s f p l (eqb-true w s eb))
     wish_good l false true eb ec =
         let m = may k s d locks w ec in
-        let off : ¬ (w ∈ boats (f ∷ p)) = λ i. let q = depth_below locks (f ∷ p) h.depths w i in let low = m.low in omega arith in
+        let low : d < lock locks w = m.low in
+        let off : ¬ (w ∈ boats (f ∷ p)) = λ i. let q = depth_below locks (f ∷ p) h.depths w i in omega arith in
         let small : w < 256 = in_row rows k wf most f.boat w (in-get_or ws f.place 0 l) in
         let long : length locks ≡ 256 = h.long in
         let now : lock (set locks w d) w ≡ d = get_or-set_same locks w d free (omega arith) in
-        let lower : (x : ℕ) → lock (set locks w d) x ≤ lock locks x = set_lower locks w d (omega (arith, m.low)) in (
-          inv_entered rows k wf most s (moved f ∷ p) locks waiters _ w small (omega (arith, m.low)) m.room
+        let lower : (x : ℕ) → lock (set locks w d) x ≤ lock locks x = set_lower locks w d (omega arith) in (
+          inv_entered rows k wf most s (moved f ∷ p) locks waiters _ w small (omega arith) m.room
               h.long h.wide h.depths
               (λ q. (
                 passed_more rows k wf most s d (set locks w d) ws f.place l

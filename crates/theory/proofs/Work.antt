@@ -64,7 +64,8 @@ module _ (rows : Rows) (k : ℕ) where
       Falls left (at s (f ∷ p) locks waiters e) (step rows k (at s (f ∷ p) locks waiters e))
   path_falls s f p locks waiters e =
       let j : ℕ = k - 1 - length p in
-      grind (arith, nat_tests, cost_some rows j, work_pull rows j (row rows f.boat) f.place, cost_room (length p), drop_all f.place (row rows f.boat))
+      let ws : List ℕ = row rows f.boat in
+      grind (arith, nat_tests, cost_some rows j, work_pull rows j ws f.place, cost_room (length p), drop_all f.place ws)
 
   at_falls : (s : ℕ) (p : List Frame) (locks : List ℕ) (waiters : Waiters) (e : ℕ) →
       Falls left (at s p locks waiters e) (step rows k (at s p locks waiters e))
