@@ -80,9 +80,6 @@ module _ (rows : Rows) (k : ℕ) (wf : WellFormed rows) (most : k ≤ 16) where
     inv_waits unfound l =
         let v : ℕ = f.boat in
         let ws : List ℕ = row rows v in
-        let here : lock locks v ≡ length p = h.depths.0 in
-        let short : length (f ∷ p) ≤ k = h.short in
-        let long : length locks ≡ 256 = h.long in
         let small : v < length locks = locked_in locks v (omega arith) in
         let seen : Passed k s locks (length (f ∷ p)) ws =
         subst (λ y. Passed k s locks (length (f ∷ p)) y) (take_all f.place ws l) (h.seen unfound).0 in
@@ -104,12 +101,8 @@ module _ (rows : Rows) (k : ℕ) (wf : WellFormed rows) (most : k ≤ 16) where
       let v : ℕ = f.boat in
       let o : List ℕ = boats (f ∷ g ∷ p) in
       let m : List ℕ = release waiters o v locks in
-      let long : length locks ≡ 256 = h.long in
-      let short : length (f ∷ g ∷ p) ≤ k = h.short in
-      let here : lock locks v ≡ length (g ∷ p) = h.depths.0 in
       let deep : finite (set locks v free) ≤ 256 = deep_enough locks v (omega arith) in
       let r : Released waiters o locks v v locks m = left waiters o v locks 256 deep in
-      let free_v : lock m v ≡ free = r.self in
       record {
         long = r.freed.long ∙ h.long;
         wide = h.wide;
@@ -119,6 +112,5 @@ module _ (rows : Rows) (k : ℕ) (wf : WellFormed rows) (most : k ≤ 16) where
             let a = depth_below locks (g ∷ p) h.depths.1 x i in stays waiters o v locks 256 deep x (inr i) (λ z. grind arith))
             h.depths.1;
         seen = λ q. absurd (both_ways true q refl);
-        blocked = λ u off low w i.
-            grind (arith, h.blocked u, r.freed.only u, r.freed.only w, r.freed.closed w);
+        blocked = λ u off low w i. grind (arith, h.blocked u, r.freed.only u, r.freed.only w, r.freed.closed w);
       }

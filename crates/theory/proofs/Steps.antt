@@ -49,7 +49,6 @@ module _ (rows : Rows) (k : ℕ) (wf : WellFormed rows) (two : 2 ≤ k) (most : 
         let low : d < lock locks w = m.low in
         let off : ¬ (w ∈ boats (f ∷ p)) = λ i. let q = depth_below locks (f ∷ p) h.depths w i in omega arith in
         let small : w < 256 = in_row rows k wf most f.boat w (in-get_or ws f.place 0 l) in
-        let long : length locks ≡ 256 = h.long in
         let now : lock (set locks w d) w ≡ d = get_or-set_same locks w d free (omega arith) in
         let lower : (x : ℕ) → lock (set locks w d) x ≤ lock locks x = set_lower locks w d (omega arith) in (
           inv_entered rows k wf most s (moved f ∷ p) locks waiters _ w small (omega arith) m.room
