@@ -54,7 +54,7 @@ module _ (waiters : Waiters) (path : List ℕ) (v : ℕ) (l : List ℕ) where
     near_or_not w =
         ⊎_elim (λ e. inl (subst Near (sym e) here))
         (λ n. ⊎_elim
-        (λ a. inr (λ c. let now = freed c in let low = near_locked c in grind arith))
+        (λ a. inr (λ c. let now = freed c in grind arith))
         (λ a. inl a.1) (left.freed.only w))
         (cases_eq w v)
 

@@ -124,7 +124,7 @@ module _ (rows : Rows) (k : ℕ) where
   roots_only i (suc m) r h =
       ⊎_elim
       (λ g. (i, omega arith, g))
-      (λ g. let o = roots_only (i + 1) m r g in let later = o.1 in (o.0, omega arith, o.2))
+      (λ g. let o = roots_only (i + 1) m r g in (o.0, omega arith, o.2))
       (in_cases r (of_root rows i (k - 1)) (from_roots rows k (i + 1) m) h)
 
   roots_each : (i m s : ℕ) (r : List ℕ) → i ≤ s → s < i + m → r ∈ of_root rows s (k - 1) → r ∈ from_roots rows k i m
@@ -144,7 +144,6 @@ module _ (rows : Rows) (k : ℕ) where
       (root_sorted rows i (k - 1)) (roots_sorted (i + 1) m)
       (λ x y g h.
       let o = roots_only (i + 1) m y h in
-      let later = o.1 in
       inl (omega (arith, root_first i x g, root_first o.0 y o.2)))
 
 row_below : (rows : Rows) (v : ℕ) → 0 < length (row rows v) → v < length rows
@@ -154,7 +153,6 @@ module _ (rows : Rows) (k : ℕ) (wf : WellFormed rows) (two : 2 ≤ k) (most : 
   within_from : (s : ℕ) (t : List ℕ) → next s t ∈ row rows s → Way rows s (k - 1) (s ∷ []) t → RingWithin rows k (s ∷ t)
   within_from s [] n h = absurd (wf.other s s n refl)
   within_from s (w ∷ t) n h =
-      let short = h.short in
       record {
         ring = record { two = omega arith; sixteen = omega arith; apart = (λ x. x, h.fresh); least = h.above };
         of = h.leads s n;
@@ -164,7 +162,6 @@ module _ (rows : Rows) (k : ℕ) (wf : WellFormed rows) (two : 2 ≤ k) (most : 
   within_in : (r : List ℕ) → RingWithin rows k r → r ∈ from_roots rows k 0 (length rows)
   within_in [] h = absurd h.of
   within_in (s ∷ t) h =
-      let short = h.bound in
       let n = leads_next rows s s t h.of in
       let below = row_below rows s (in_some (next s t) (row rows s) n) in
       roots_each rows k 0 (length rows) s (s ∷ t) (omega arith) (omega arith)

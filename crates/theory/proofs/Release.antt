@@ -68,10 +68,10 @@ module _ (waiters : Waiters) (path : List ℕ) (base : List ℕ) (r : ℕ) where
       record { long = refl; fewer = omega arith; only = λ w. inl refl; closed = λ w a b u c d. absurd (omega arith) }
 
   keeps_free : (l m : List ℕ) → Freed l m → (u : ℕ) → free ≤ lock l u → free ≤ lock m u
-  keeps_free l m f u e = let k = f.only u in grind arith
+  keeps_free l m f u e = grind arith
 
   under_freed : (l m : List ℕ) → Under l → Freed l m → Under m
-  under_freed l m under f w h = let k = f.only w in let o = under w in grind arith
+  under_freed l m under f w h = grind arith
 
   freed_both : (l m o : List ℕ) → Freed l m → Freed m o → Freed l o
   freed_both l m o f g =
@@ -98,7 +98,6 @@ module _ (waiters : Waiters) (path : List ℕ) (base : List ℕ) (r : ℕ) where
   marks_all most f i [] o l n under = record { freed = freed_none l; each = λ j e. grind arith }
   marks_all most f i (true ∷ marks) o l n under =
       let a = o 0 refl i (omega arith) l n under in
-      let k = a.0.fewer in
       let r = marks_all most f (suc i) marks (λ j e w at. o (suc j) e w (omega arith)) (f i l) (omega arith)
       (under_freed l (f i l) under a.0) in
       let m : List ℕ = each_mark f (suc i) marks (f i l) in
@@ -129,7 +128,7 @@ module _ (waiters : Waiters) (path : List ℕ) (base : List ℕ) (r : ℕ) where
       Freed l (visit b f l) × (¬ (w ∈ path) → free ≤ lock (visit b f l) w)
   visited w l f false e g = (freed_none l, not_held l w e)
   visited w l f true e g =
-      let h = is_held l w e in let r = g h.0 h.1 in let s = r.self in (r.freed, λ n. omega arith)
+      let h = is_held l w e in let r = g h.0 h.1 in (r.freed, λ n. omega arith)
 
   first_freed : (v : ℕ) (l m : List ℕ) → Near v → Freed (set l v free) m → Onward m v → Released v l m
   first_freed v l m near f g =
@@ -142,7 +141,7 @@ module _ (waiters : Waiters) (path : List ℕ) (base : List ℕ) (r : ℕ) where
           closed = λ w a b.
               ⊎_elim (λ e. subst (λ z. Onward m z) (sym e) g) (λ n. f.closed w (rw (same w n) a) b) (cases_eq w v);
         };
-        self = let k = f.only v in grind (arith, set_free l v);
+        self = grind (arith, set_free l v);
         onward = g;
       }
 

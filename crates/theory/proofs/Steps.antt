@@ -16,8 +16,7 @@ module _ (rows : Rows) (k : ℕ) (wf : WellFormed rows) (two : 2 ≤ k) (most : 
   root_good : (s : ℕ) (locks : List ℕ) (waiters : Waiters) (e : ℕ) → Inv rows k (at s [] locks waiters e) →
       (b : Bool) → ltb s (length rows) ≡ b → Good rows k (at s [] locks waiters e) (on_root b (at s [] locks waiters e))
   root_good s locks waiters e h true t =
-      let n = ltb-true s (length rows) t in
-      let few = wf.few in (
+      let n = ltb-true s (length rows) t in (
         inv_entered rows k wf most s [] locks waiters _ s (omega arith) (omega arith) (omega arith)
             h.long h.wide tt tt h.blocked,
         remains_root rows k s n,
@@ -46,7 +45,6 @@ module _ (rows : Rows) (k : ℕ) (wf : WellFormed rows) (two : 2 ≤ k) (most : 
     wish_good l true c eb ec = (inv_found rows k wf most s f p locks waiters e h, remains_ring rows k s f p l (eqb-true w s eb))
     wish_good l false true eb ec =
         let m = may k s d locks w ec in
-        let low : d < lock locks w = m.low in
         let off : ¬ (w ∈ boats (f ∷ p)) = λ i. let q = depth_below locks (f ∷ p) h.depths w i in omega arith in
         let small : w < 256 = in_row rows k wf most f.boat w (in-get_or ws f.place 0 l) in
         let now : lock (set locks w d) w ≡ d = get_or-set_same locks w d free (omega arith) in

@@ -41,7 +41,7 @@ module _ (rows : Rows) where
       rw (h.r_is, h.q_is) (lesser_first h.beginning h.v h.t h.u e)
 
   parts_first : (r q : List ℕ) → Parts rows r q → first r ≡ first q
-  parts_first r q h = let r_is = h.r_is in let q_is = h.q_is in grind (arith, common_steps)
+  parts_first r q h = grind (arith, common_steps)
 
   module _ (wf : WellFormed rows) where
     asym : (v a b : ℕ) → Earlier (row rows v) a b → Earlier (row rows v) b a → ⊥
