@@ -1,6 +1,6 @@
 -- A release frees what is reached through waiters off the path and locked, and nothing else.
 -- Assumes nothing.
-use Rattle.std.proofs.Common.{◌≡◌, ℕ, ◌<◌, ◌≤◌, true, ◌⊎◌, ◌≢◌, List, set, refl, sym, ◌∙◌, subst, inl, inr, ⊎_elim, arith}
+use Rattle.std.proofs.Common.{◌≡◌, ℕ, ◌≤◌, true, ◌⊎◌, ◌≢◌, List, set, sym, ◌∙◌, subst, inl, inr, ⊎_elim, arith}
 use Rattle.std.proofs.lemmas.List.{ext_get_or}
 use Rattle.std.proofs.lemmas.Bool.{cases_eq}
 use Rattle.exchange.specs.Rows.{◌∈◌}
@@ -9,59 +9,47 @@ use Rattle.theory.specs.Releases.{Reached, here, then, Frees}
 use Rattle.theory.specs.Theorems.{Releases}
 use Rattle.theory.proofs.Release.{finite, deep_enough, Released, released}
 
-module _ (waiters : Waiters) (path : List ℕ) (v : ℕ) (l : List ℕ) where
-  abbrev pub Near : ℕ → Type 0
+module _ (waiters : Waiters) (path : List ℕ) (v : ℕ) (l : List ℕ) (depth : ℕ) (deep : finite (set l v free) ≤ depth) where
+  abbrev m : List ℕ
+  m = release_within depth waiters path v l
+
+  abbrev Near : ℕ → Type 0
   Near w = Reached waiters path l v w
 
-  -- what is reached was locked and is off the path, but for v
-  near_locked : {w : ℕ} → Near w → (w ≡ v) ⊎ (lock l w < free)
-  near_locked here = inl refl
-  near_locked (then w c e off low) = inr low
+  pub left : Released waiters path l v v l m
+  left = released waiters path l v depth v l here (λ w h. h) deep
 
-  near_off : {w : ℕ} → Near w → w ∈ path → w ≡ v
-  near_off here i = refl
-  near_off (then w c e off low) i = absurd (off i)
+  onward : {w : ℕ} → Near w → (u : ℕ) → waits waiters w u ≡ true → ¬ (u ∈ path) → free ≤ lock m u
+  onward here = left.onward
+  onward (then {x = x} w c e off low) = left.freed.closed w low (onward c w e off)
 
-  module _ (depth : ℕ) (deep : finite (set l v free) ≤ depth) where
-    abbrev m : List ℕ
-    m = release_within depth waiters path v l
+  freed : {w : ℕ} → Near w → lock m w ≡ free
+  freed here = left.self
+  freed (then w c e off low) = let up = onward c w e off in let a = left.freed.only w in grind arith
 
-    pub left : Released waiters path l v v l m
-    left = released waiters path l v depth v l here (λ w h. h) deep
+  -- a boat on the path keeps its lock, but for v
+  pub stays : (w : ℕ) → w ∈ path → w ≢ v → lock m w ≡ lock l w
+  stays w i n = let a = left.freed.only w in grind arith
 
-    onward : {w : ℕ} → Near w → (u : ℕ) → waits waiters w u ≡ true → ¬ (u ∈ path) → free ≤ lock m u
-    onward here = left.onward
-    onward (then {x = x} w c e off low) = left.freed.closed w low (onward c w e off)
+  frees : Frees waiters path v l m
+  frees =
+      record {
+        long = left.freed.long;
+        freed = λ w c. freed c;
+        kept = λ w n. let a = left.freed.only w in grind arith;
+      }
 
-    freed : {w : ℕ} → Near w → lock m w ≡ free
-    freed here = left.self
-    freed (then w c e off low) = let up = onward c w e off in let a = left.freed.only w in grind arith
+  -- a boat other than v that is reached was locked, so that the locks tell whether it was
+  near_or_not : (w : ℕ) → Near w ⊎ (¬ Near w)
+  near_or_not w =
+      ⊎_elim (λ e. inl (subst Near (sym e) here))
+      (λ n. ⊎_elim (λ a. inr (λ c. let now = freed c in grind arith)) (λ a. inl a.1) (left.freed.only w))
+      (cases_eq w v)
 
-    -- a boat on the path keeps its lock, but for v
-    pub stays : (w : ℕ) → w ∈ path → w ≢ v → lock m w ≡ lock l w
-    stays w i n = ⊎_elim (λ a. a) (λ a. absurd (n (near_off a.1 i))) (left.freed.only w)
-
-    frees : Frees waiters path v l m
-    frees =
-        record {
-          long = left.freed.long;
-          freed = λ w c. freed c;
-          kept = λ w n. ⊎_elim (λ a. a) (λ a. absurd (n a.1)) (left.freed.only w);
-        }
-
-    -- a boat other than v that is reached was locked, so that the locks tell whether it was
-    near_or_not : (w : ℕ) → Near w ⊎ (¬ Near w)
-    near_or_not w =
-        ⊎_elim (λ e. inl (subst Near (sym e) here))
-        (λ n. ⊎_elim
-        (λ a. inr (λ c. let now = freed c in grind arith))
-        (λ a. inl a.1) (left.freed.only w))
-        (cases_eq w v)
-
-    frees_one : (o : List ℕ) → Frees waiters path v l o → o ≡ m
-    frees_one o a =
-        ext_get_or free o m (a.long ∙ sym frees.long)
-        (λ w h. ⊎_elim (λ c. a.freed w c ∙ sym (freed c)) (λ c. a.kept w c ∙ sym (frees.kept w c)) (near_or_not w))
+  frees_one : (o : List ℕ) → Frees waiters path v l o → o ≡ m
+  frees_one o a =
+      ext_get_or free o m (a.long ∙ sym frees.long)
+      (λ w h. ⊎_elim (λ c. a.freed w c ∙ sym (freed c)) (λ c. a.kept w c ∙ sym (frees.kept w c)) (near_or_not w))
 
 pub releases : Releases
 releases waiters path v l long =
