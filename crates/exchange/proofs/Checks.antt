@@ -1,37 +1,21 @@
--- What follows from a row of checks, one after the other.
+-- The first fault along the places of a list.
 -- Assumes nothing.
-use Rattle.std.proofs.Common.{◌≡◌, ℕ, zero, suc, ◌+◌, ◌<◌, ◌≤◌, Bool, false, List, [], ◌∷◌, map, Some, None, Option, refl, arith}
+use Rattle.std.proofs.Common.{◌≡◌, ℕ, zero, suc, ◌+◌, ◌<◌, ◌≤◌, map, Some, None, Option, refl, arith}
 use Rattle.std.specs.List.{range_with_len}
 use Rattle.exchange.specs.declared.fault.Fault.{Fault}
-use Rattle.exchange.specs.declared.fault.Rule.{Rule}
-use Rattle.exchange.specs.Checks.{refuse_if, first_of}
-
--- a check that tells nothing has its test false
-pub kept : (b : Bool) (rule : Rule) (place : ℕ) → refuse_if b rule place ≡ None → b ≡ false
-kept b rule place e = grind arith
-
--- where the row tells nothing, neither does its first check, nor the rest
-pub first_none : (o : Option Fault) (checks : List (Option Fault)) → first_of (o ∷ checks) ≡ None
-    → (o ≡ None) × (first_of checks ≡ None)
-first_none o checks e = grind arith
-
-pub first_one : (o : Option Fault) → first_of (o ∷ []) ≡ o
-first_one o = grind arith
-
--- ---- checks along the places of a list
+use Rattle.exchange.specs.Checks.{first_of}
 
 module _ (t : ℕ → Option Fault) where
   -- where none of the places has a fault, the one at j has none
   pub none_at : (i n j : ℕ) → first_of (map t (range_with_len i n)) ≡ None → i ≤ j → j < i + n → t j ≡ None
   none_at i zero j e l h = absurd (omega arith)
-  none_at i (suc n) j e l h = grind (arith, first_none (t i) (map t (range_with_len (i + 1) n)), none_at (i + 1) n j)
+  none_at i (suc n) j e l h = grind (arith, none_at (i + 1) n j)
 
   none_from : (i n : ℕ) → ((k : ℕ) → i ≤ k → k < i + n → t k ≡ None) → first_of (map t (range_with_len i n)) ≡ None
   none_from i zero h = refl
   none_from i (suc n) h =
-      let here = h i (omega arith) (omega arith) in
       let rest = none_from (i + 1) n (λ k l m. h k (omega arith) (omega arith)) in
-      grind (arith, here, rest)
+      grind (arith, h i, rest)
 
   found_from : (i n u : ℕ) (f : Fault) → i ≤ u → u < i + n → ((k : ℕ) → i ≤ k → k < u → t k ≡ None) → t u ≡ Some f
       → first_of (map t (range_with_len i n)) ≡ Some f

@@ -1,19 +1,18 @@
--- What the checks of a book leave, and what a book that holds bytes shows: each row as long as the table says.
+-- What the checks of a book leave, and what they tell one after the other.
 -- Assumes nothing.
-use Rattle.std.specs.Prelude.{◌≡◌, ℕ, suc, ◌≤◌, List, [], ◌∷◌, Some, None, Option}
-use Rattle.std.proofs.Common.{ap, subst, ◌∙◌, arith}
+use Rattle.std.specs.Prelude.{◌≡◌, ℕ, suc, ◌≤◌, List, Some, None, Option}
+use Rattle.std.proofs.Common.{subst, arith}
 use Rattle.std.proofs.lemmas.Bool.Decides.{nat_tests}
 use Rattle.exchange.specs.declared.fault.Fault.{Fault}
-use Rattle.exchange.specs.Checks.{first_of}
-use Rattle.exchange.proofs.Checks.{first_one}
 use Rattle.hosts.specs.Books.{boats, wishes, row_number, header_fault, previous, row_number_fault, table_fault, wishes_fault, book_fault}
 use Rattle.hosts.specs.Layouts.{TableStands}
 
 -- ---- what the checks of the table leave
 
-number_bounds : (b : List ℕ) (u : ℕ) → row_number_fault b u ≡ None → (previous b u ≤ row_number b u) × (row_number b u ≤ wishes b)
+number_bounds : (b : List ℕ) (u : ℕ) → row_number_fault b u ≡ None
+    → (previous b u ≤ row_number b u) × (row_number b u ≤ wishes b)
 unfolding row_number_fault
-number_bounds b u e = (grind (arith, nat_tests), grind (arith, nat_tests))
+number_bounds b u e = grind (arith, nat_tests)
 
 -- where every row number keeps its rule
 pub numbers_stand : (b : List ℕ) → ((u : ℕ) → u ≤ boats b → row_number_fault b u ≡ None) → TableStands b
@@ -27,14 +26,15 @@ numbers_stand b none = record {
 
 pub header_first : (b : List ℕ) (f : Fault) → header_fault b ≡ Some f → book_fault b ≡ Some f
 unfolding book_fault
-header_first b f h = ap (λ o. first_of (o ∷ table_fault b ∷ wishes_fault b ∷ [])) h
+header_first b f h = grind arith
 
 pub table_second : (b : List ℕ) (f : Fault) → header_fault b ≡ None → table_fault b ≡ Some f → book_fault b ≡ Some f
 unfolding book_fault
-table_second b f h t = λ i. first_of (h i ∷ t i ∷ wishes_fault b ∷ [])
+table_second b f h t = grind arith
 
-pub wishes_third : (b : List ℕ) (o : Option Fault) → header_fault b ≡ None → table_fault b ≡ None → wishes_fault b ≡ o → book_fault b ≡ o
+pub wishes_third : (b : List ℕ) (o : Option Fault) → header_fault b ≡ None → table_fault b ≡ None → wishes_fault b ≡ o
+    → book_fault b ≡ o
 unfolding book_fault
-wishes_third b o h t w = (λ i. first_of (h i ∷ t i ∷ w i ∷ [])) ∙ first_one o
+wishes_third b o h t w = grind arith
 
 pub ruleset checks_in_order = (header_first, table_second, wishes_third)

@@ -2,15 +2,15 @@
 -- `impl` may cite nothing of its crate's `proofs/`; it defines nothing that a contract speaks of, and need not be read.
 -- Assumes nothing.
 use Rattle.std.specs.Prelude.{◌≡◌, ℕ, ◌<◌, ◌≤◌, false, ◌≢◌, List, [], length, take, Some, None, Option, slice_index, refl}
-use Rattle.std.proofs.Common.{sym, subst, ⊎_elim, arith}
+use Rattle.std.proofs.Common.{sym, ⊎_elim, arith}
 use Rattle.std.proofs.lemmas.List.FromFn.{length-map-range_with_len, get_or-map-range_with_len}
 use Rattle.std.proofs.lemmas.List.{get_or_past}
 use Rattle.std.proofs.lemmas.Bool.Decides.{nat_tests}
 use Rattle.std.proofs.lemmas.Bool.{cases_lt}
 use Rattle.exchange.specs.Rows.{row, ◌∈◌, Fresh, WellFormed, has}
-use Rattle.exchange.proofs.Checks.{first_none, none_at}
+use Rattle.exchange.proofs.Checks.{none_at}
 use Rattle.exchange.proofs.Rows.{place_of, fresh_from_places}
-use Rattle.hosts.specs.Books.{boats, row_at, book_row, book_rows, header_fault, table_fault, wish_fault, row_fault, wishes_fault, book_fault}
+use Rattle.hosts.specs.Books.{boats, row_at, book_row, book_rows, header_fault, table_fault, wish_fault, row_fault, boat_fault, wishes_fault, book_fault}
 use Rattle.std.specs.Option.{option_map_or, ForSome}
 use Rattle.hosts.specs.declared.book.Book.{Book}
 use Rattle.hosts.specs.declared.table.Table.{Table}
@@ -46,32 +46,31 @@ pub record Kept (n u : ℕ) (cut : List ℕ) (j : ℕ) : Type 0 where
   pub other : slice_index cut j ≢ u
   pub once : has (take j cut) (slice_index cut j) ≡ false
 
-wish_kept : (b : List ℕ) → wishes_fault b ≡ None → (u : ℕ) → u < boats b → (j : ℕ) → j < length (book_row b u) → Kept (boats b) u (book_row b u) j
+wish_kept : (b : List ℕ) → wishes_fault b ≡ None → (u : ℕ) → u < boats b → (j : ℕ) → j < length (book_row b u)
+    → Kept (boats b) u (book_row b u) j
 unfolding wishes_fault row_fault wish_fault
 wish_kept b e u h j l =
     let cut = book_row b u in
-    let row = none_at (λ v. row_fault (boats b) v (row_at b v) (book_row b v)) 0 (boats b) u e (omega arith) (omega arith) in
+    let row = none_at (boat_fault b) 0 (boats b) u e (omega arith) (omega arith) in
     let wish = none_at (wish_fault (boats b) u (row_at b u) cut) 0 (length cut) j row (omega arith) (omega arith) in
-    record { below = grind (arith, nat_tests, wish); other = grind (arith, nat_tests, wish); once = grind (arith, nat_tests, wish) }
+    record { below = grind (arith, nat_tests); other = grind (arith, nat_tests); once = grind (arith, nat_tests) }
 
 -- a wish of row u is one of a boat's row, at some place of it
 wish_of : (b : List ℕ) → wishes_fault b ≡ None → (u w : ℕ) → w ∈ row (book_rows b) u → (w < boats b) × (w ≢ u)
-wish_of b e u w h = ⊎_elim here past (cases_lt u (boats b))
-  where
-    here : u < boats b → (w < boats b) × (w ≢ u)
-    here l =
-        let p = place_of w (book_row b u) (subst (λ r. w ∈ r) (row_is b u l) h) in
-        let k = wish_kept b e u l p.0 p.1 in
-        (subst (λ x. x < boats b) p.2 k.below, subst (λ x. x ≢ u) p.2 k.other)
-
-    past : boats b ≤ u → (w < boats b) × (w ≢ u)
-    past l = absurd (subst (λ r. w ∈ r) (row_past b u l) h)
+wish_of b e u w h =
+    ⊎_elim
+    (λ (l : u < boats b).
+    let p = place_of w (book_row b u) (rw (sym (row_is b u l)) h) in
+    let k = wish_kept b e u l p.0 p.1 in
+    grind (arith, p.2, k.below, k.other))
+    (λ (l : boats b ≤ u). absurd (rw (row_past b u l) at h))
+    (cases_lt u (boats b))
 
 row_once : (b : List ℕ) → wishes_fault b ≡ None → (u : ℕ) → Fresh [] (row (book_rows b) u)
 row_once b e u =
     ⊎_elim
-    (λ (l : u < boats b). subst (Fresh []) (sym (row_is b u l)) (fresh_from_places (book_row b u) (λ j g. (wish_kept b e u l j g).once)))
-    (λ (l : boats b ≤ u). subst (Fresh []) (sym (row_past b u l)) tt)
+    (λ (l : u < boats b). rw (row_is b u l) (fresh_from_places (book_row b u) (λ j g. (wish_kept b e u l j g).once)))
+    (λ (l : boats b ≤ u). rw (row_past b u l) tt)
     (cases_lt u (boats b))
 
 pub well_formed : (b : List ℕ) → boats b ≤ 256 → wishes_fault b ≡ None → WellFormed (book_rows b)
@@ -86,10 +85,7 @@ well_formed b few e = record {
 
 pub all_passed : (b : List ℕ) → book_fault b ≡ None → (header_fault b ≡ None) × (table_fault b ≡ None) × (wishes_fault b ≡ None)
 unfolding book_fault
-all_passed b e =
-    let header = first_none (header_fault b) _ e in
-    let table = first_none (table_fault b) _ header.1 in
-    (header.0, table.0, (first_none (wishes_fault b) _ table.1).0)
+all_passed b e = grind arith
 
 pub accepted_rows : (b : List ℕ) → book_fault b ≡ None → WellFormed (book_rows b)
 accepted_rows b e = let p = all_passed b e in well_formed b (header_facts b p.0).few p.2
@@ -100,6 +96,7 @@ none_rows = record { few = omega arith; below = λ u w h. absurd h; other = λ u
 pub rows_sound : (book : Book) → WellFormed (rows_of book)
 rows_sound book = shown book.table book.accepted
   where
-    shown : (table : Option Table) → ForSome table (λ t. book_fault t.layout.bytes.items ≡ None) → WellFormed (option_map_or (λ t. book_rows t.layout.bytes.items) table [])
+    shown : (table : Option Table) → ForSome table (λ t. book_fault t.layout.bytes.items ≡ None)
+        → WellFormed (option_map_or (λ t. book_rows t.layout.bytes.items) table [])
     shown None h = none_rows
     shown (Some t) h = accepted_rows t.layout.bytes.items (h t refl)
