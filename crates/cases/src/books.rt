@@ -31,8 +31,8 @@ const CHANGES: [(usize, u8, Rule, usize); 20] = [
 
 // What the reader says of bytes.
 fn read(bytes: Vec<u8>) -> Result<(), Fault> {
-    let _book = Book::try_from(bytes)?;
-    Ok(())
+    let mut book = Book::new();
+    book.fill(bytes)
 }
 
 #[test]
@@ -41,6 +41,23 @@ fn a_new_book_has_no_boats(rt: HostRuntime) {
     assert_eq!(rt; book.boats(), 0);
     assert_eq!(rt; book.row_len(0), 0);
     assert_eq!(rt; book.wish(0, 0), None);
+}
+
+#[test]
+fn a_default_book_is_a_new_one(rt: HostRuntime) {
+    let book = Book::default();
+    assert_eq!(rt; book.boats(), 0);
+    assert_eq!(rt; book.row_len(0), 0);
+}
+
+#[test]
+fn a_book_is_made_from_bytes(rt: HostRuntime) -> Result<(), Fail> {
+    let book = Book::try_from(P.to_vec(rt.alloc())?)?;
+    assert_eq!(rt; book.boats(), 5);
+    assert_eq!(rt; book.wish(4, 0), Some(2));
+    let made = Book::try_from(changed(rt.alloc(), &P, 20, 5)?);
+    assert_eq!(rt; made.err(), Some(Rule::UnknownBoat.at(20)));
+    Ok(())
 }
 
 #[test]

@@ -1,6 +1,6 @@
 -- How a call that checks its input says no: the first of its checks that refuses.
 -- Assumes nothing.
-use Rattle.std.specs.Prelude.{ℕ, Bool, true, false, List, [], ◌∷◌, Some, None, Ok, Err, ◌≡◌, Option, Result, MatchResult}
+use Rattle.std.specs.Prelude.{ℕ, Bool, true, false, List, [], ◌∷◌, Some, None, Ok, Err, Option, Result}
 use Rattle.exchange.specs.declared.fault.Fault.{Fault}
 use Rattle.exchange.specs.declared.fault.Fault.TheVariants.{Refused}
 use Rattle.exchange.specs.declared.fault.Rule.{Rule}
@@ -20,7 +20,3 @@ first_of (None ∷ checks) = first_of checks
 abbrev pub unless : {X : Type 0} → Option Fault → X → Result X Fault
 unless None x = Ok x
 unless (Some f) x = Err f
-
--- what a check answers: Ok where there is no fault, and else the fault
-abbrev pub Tells : {X : Type 0} → Result X Fault → Option Fault → Type 0
-Tells r fault = MatchResult r (λ _. fault ≡ None) (λ f. fault ≡ Some f)

@@ -45,7 +45,7 @@ impl fmt::Display for Layer {
 }
 
 /// A rule that an input or a state can break. What its place is stands with each.
-#[derive(Clone, Copy, PartialEq, Eq, Hash, Debug)]
+#[derive(Clone, Copy, PartialEq, Eq, Debug)]
 pub enum Rule {
     /// A book has a header of 8 bytes. Place: the length.
     BookTooShort = 1,

@@ -1,10 +1,10 @@
 -- What the checks of a book leave, and what they tell one after the other.
 -- Assumes nothing.
-use Rattle.std.specs.Prelude.{◌≡◌, ℕ, suc, ◌≤◌, List, Some, None, Option}
+use Rattle.std.specs.Prelude.{◌≡◌, ℕ, suc, ◌≤◌, true, List, Some, None, Option}
 use Rattle.std.proofs.Common.{subst, arith}
 use Rattle.std.proofs.lemmas.Bool.Decides.{nat_tests}
 use Rattle.exchange.specs.declared.fault.Fault.{Fault}
-use Rattle.hosts.specs.Books.{boats, wishes, row_number, header_fault, previous, row_number_fault, table_fault, wishes_fault, book_fault}
+use Rattle.hosts.specs.Books.{boats, wishes, row_number, header_fault, previous, row_number_fault, table_fault, wishes_fault, book_fault, may_hold}
 use Rattle.hosts.specs.Layouts.{TableStands}
 
 -- ---- what the checks of the table leave
@@ -38,3 +38,9 @@ unfolding book_fault
 wishes_third b o h t w = grind arith
 
 pub ruleset checks_in_order = (header_first, table_second, wishes_third)
+
+-- ---- what a book may hold
+
+pub held_accepted : (b : List ℕ) → book_fault b ≡ None → may_hold b ≡ true
+unfolding may_hold
+held_accepted b e = grind (arith, nat_tests)

@@ -1,6 +1,6 @@
 -- The book: rows laid out as bytes, and what its reader says of any bytes.
 -- Assumes nothing.
-use Rattle.std.specs.Prelude.{ℕ, zero, suc, ◌+◌, ◌-◌, ◌*◌, Bool, not, ◌&&◌, ◌||◌, List, [], ◌∷◌, map, length, take, drop, Option, Result, ◌==◌, nat_le, nat_lt, slice_index}
+use Rattle.std.specs.Prelude.{ℕ, zero, suc, ◌+◌, ◌-◌, ◌*◌, Bool, not, ◌&&◌, ◌||◌, List, [], ◌∷◌, map, length, take, drop, is_some, Option, Result, ◌==◌, nat_le, nat_lt, slice_index}
 use Rattle.std.specs.List.{range_with_len}
 use Rattle.exchange.specs.declared.fault.Fault.{Fault}
 use Rattle.exchange.specs.declared.fault.Rule.TheVariants.{BookTooShort, BookTooLarge, WrongOffset, WrongLength, WrongRowNumber, UnknownBoat, OwnBoat, RepeatedWish}
@@ -99,3 +99,7 @@ book_fault b = first_of (header_fault b ∷ table_fault b ∷ wishes_fault b ∷
 
 abbrev pub reading : List ℕ → Result Rows Fault
 reading b = unless (book_fault b) (book_rows b)
+
+-- what a book may hold: no bytes yet, or bytes with no fault
+unfoldable pub may_hold : List ℕ → Bool
+may_hold b = length b == 0 || not (is_some (book_fault b))

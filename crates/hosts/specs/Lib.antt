@@ -1,4 +1,5 @@
 pub mod Books
+pub mod Held
 pub mod Layouts
 pub mod Shown
 pub mod Sound

@@ -1,8 +1,8 @@
 -- That the rows of accepted bytes are well formed: the proof of the law that a book owes as a host. It stands here because an
 -- `impl` may cite nothing of its crate's `proofs/`; it defines nothing that a contract speaks of, and need not be read.
 -- Assumes nothing.
-use Rattle.std.specs.Prelude.{◌≡◌, ℕ, ◌<◌, ◌≤◌, false, ◌≢◌, List, [], length, take, Some, None, Option, slice_index, refl}
-use Rattle.std.proofs.Common.{sym, ⊎_elim, arith}
+use Rattle.std.specs.Prelude.{◌≡◌, ℕ, ◌<◌, ◌≤◌, true, false, ◌≢◌, ◌⊎◌, List, [], ◌∷◌, length, take, None, slice_index, refl}
+use Rattle.std.proofs.Common.{sym, inl, inr, ⊎_elim, arith}
 use Rattle.std.proofs.lemmas.List.FromFn.{length-map-range_with_len, get_or-map-range_with_len}
 use Rattle.std.proofs.lemmas.List.{get_or_past}
 use Rattle.std.proofs.lemmas.Bool.Decides.{nat_tests}
@@ -10,12 +10,8 @@ use Rattle.std.proofs.lemmas.Bool.{cases_lt}
 use Rattle.exchange.specs.Rows.{row, ◌∈◌, Fresh, WellFormed, has}
 use Rattle.exchange.proofs.Checks.{none_at}
 use Rattle.exchange.proofs.Rows.{place_of, fresh_from_places}
-use Rattle.hosts.specs.Books.{boats, row_at, book_row, book_rows, header_fault, table_fault, wish_fault, row_fault, boat_fault, wishes_fault, book_fault}
-use Rattle.std.specs.Option.{option_map_or, ForSome}
-use Rattle.hosts.specs.declared.book.Book.{Book}
-use Rattle.hosts.specs.declared.table.Table.{Table}
+use Rattle.hosts.specs.Books.{boats, row_at, book_row, book_rows, header_fault, table_fault, wish_fault, row_fault, boat_fault, wishes_fault, book_fault, may_hold}
 use Rattle.hosts.specs.Layouts.{HeaderStands}
-use Rattle.hosts.specs.Shown.{rows_of}
 
 -- ---- what the checks of the header leave
 
@@ -81,22 +77,24 @@ well_formed b few e = record {
   once = row_once b e;
 }
 
--- ---- what an accepted book shows
+-- ---- what a book may hold
+
+-- no bytes at all, or bytes that passed every check
+pub cases_held : (b : List ℕ) → may_hold b ≡ true → (b ≡ []) ⊎ (book_fault b ≡ None)
+unfolding may_hold
+cases_held [] e = inl refl
+cases_held (x ∷ b) e = inr (grind (arith, nat_tests))
 
 pub all_passed : (b : List ℕ) → book_fault b ≡ None → (header_fault b ≡ None) × (table_fault b ≡ None) × (wishes_fault b ≡ None)
 unfolding book_fault
 all_passed b e = grind arith
 
-pub accepted_rows : (b : List ℕ) → book_fault b ≡ None → WellFormed (book_rows b)
-accepted_rows b e = let p = all_passed b e in well_formed b (header_facts b p.0).few p.2
+no_wishes : wishes_fault [] ≡ None
+unfolding wishes_fault
+no_wishes = refl
 
-none_rows : WellFormed []
-none_rows = record { few = omega arith; below = λ u w h. absurd h; other = λ u w h. absurd h; once = λ u. tt }
-
-pub rows_sound : (book : Book) → WellFormed (rows_of book)
-rows_sound book = shown book.table book.accepted
-  where
-    shown : (table : Option Table) → ForSome table (λ t. book_fault t.layout.bytes.items ≡ None)
-        → WellFormed (option_map_or (λ t. book_rows t.layout.bytes.items) table [])
-    shown None h = none_rows
-    shown (Some t) h = accepted_rows t.layout.bytes.items (h t refl)
+pub held_rows : (b : List ℕ) → may_hold b ≡ true → WellFormed (book_rows b)
+held_rows b e =
+    ⊎_elim (λ h. rw h (well_formed [] (omega arith) no_wishes))
+    (λ h. let p = all_passed b h in well_formed b (header_facts b p.0).few p.2)
+    (cases_held b e)

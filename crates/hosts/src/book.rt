@@ -1,9 +1,9 @@
 //! The book: a host that holds its rows as bytes.
-ghost use Rattle.std.specs.Prelude.{◌≡◌, [], None, OnOk, OnErr};
-ghost use Rattle.std.specs.Option.{ForSome};
+ghost use Rattle.std.specs.Prelude.{◌≡◌, true, [], OnOk, OnErr};
 ghost use Rattle.exchange.specs.Checks.{unless};
 ghost use Rattle.exchange.specs.Rows.{row};
-ghost use Rattle.hosts.specs.Books.{book_rows, book_fault};
+ghost use Rattle.hosts.specs.Books.{book_rows, book_fault, may_hold};
+ghost use Rattle.hosts.specs.Held.{bytes_in};
 
 use super::layout::Layout;
 use super::table::Table;
@@ -14,13 +14,14 @@ use exchange::{Fault, Host};
 #[derive(Drop)]
 pub struct Book {
     table: Option<Table>,
-    ghost accepted: { ForSome table (λ t. book_fault t.layout.bytes.items ≡ None) },
+    ghost held: { may_hold (bytes_in table) ≡ true },
 }
 
 impl Book {
     ghost use Rattle.hosts.specs.Shown.{rows_of};
 
     /// A book with no boats.
+    #[tactic(auto, unfolding(crate::specs::Books::book_rows, crate::specs::Books::may_hold))]
     pub fn new() -> Book
         ensures { rows_of result ≡ [] }
     {
@@ -39,6 +40,7 @@ impl Book {
     }
 
     /// The wishes of boat `u`: none for what is no boat.
+    #[tactic(auto, using(crate::specs::Sound::rows_shown))]
     fn row(&self, u: usize) -> &[u8]
         ensures { result.now ≡ row (rows_of self.now) u }
     {
@@ -46,6 +48,17 @@ impl Book {
             Some(table) => table.row(u),
             None => &[],
         }
+    }
+}
+
+impl Default for Book {
+    ghost use Rattle.std.specs.Prelude.{◌≡◌, []};
+    ghost use Rattle.hosts.specs.Shown.{rows_of};
+
+    ghost is_default = { λ book. rows_of book ≡ [] };
+
+    fn default() -> Book {
+        Book::new()
     }
 }
 
@@ -60,7 +73,7 @@ impl TryFrom<Vec<u8>> for Book {
 
     ghost try_from_gives = { λ bytes r. result_map_both rows_of (λ f. f) r ≡ reading bytes.items };
 
-    #[tactic(auto, using(crate::proofs::Books::checks_in_order))]
+    #[tactic(auto, using(crate::proofs::Books::checks_in_order, crate::proofs::Books::held_accepted))]
     fn try_from(bytes: Vec<u8>) -> Result<Book, Fault> {
         let layout = Layout::try_from(bytes)?;
         let table = Table::try_from(layout)?;
@@ -71,11 +84,12 @@ impl TryFrom<Vec<u8>> for Book {
 
 impl Host for Book {
     ghost use Rattle.hosts.specs.Shown.{rows_of};
-    ghost use Rattle.hosts.specs.Sound.{rows_sound};
+    ghost use Rattle.hosts.specs.Held.{bytes_in};
+    ghost use Rattle.hosts.specs.Sound.{held_rows};
 
     ghost rows = { rows_of };
 
-    ghost sound = { rows_sound };
+    ghost sound = { λ x. held_rows (bytes_in x.table) x.held };
 
     #[tactic(auto, using(crate::specs::Sound::rows_shown))]
     fn boats(&self) -> usize {

@@ -1,10 +1,23 @@
 //! The layout of a book: bytes that are as long as their header says.
-ghost use Rattle.std.specs.Prelude.{◌≡◌, ◌+◌, ◌*◌, ◌<◌, ◌≤◌, length, IfOk};
-ghost use Rattle.exchange.specs.Checks.{Tells};
+ghost use Rattle.std.specs.Prelude.{◌≡◌, ◌+◌, ◌*◌, ◌^◌, ◌<◌, ◌≤◌, length, IfOk};
+ghost use Rattle.std.specs.Result.{result_err};
 ghost use Rattle.hosts.specs.Books.{number, boats, wishes, row_number, row_number_fault, wishes_at, header_fault};
 ghost use Rattle.hosts.specs.Layouts.{HeaderStands};
+ghost use Rattle.hosts.specs.declared.layout.TheConstants.{HEADER};
 
 use exchange::{Fault, Rule};
+
+/// Where the header has the number of boats.
+const BOATS_AT: usize = 0;
+
+/// Where the header has the number of wishes.
+const WISHES_AT: usize = 2;
+
+/// Where the header has the offset of the row table.
+const TABLE_OFFSET_AT: usize = 4;
+
+/// Where the header has the offset of the wishes.
+const WISHES_OFFSET_AT: usize = 6;
 
 /// How many bytes the header has.
 const HEADER: usize = 8;
@@ -16,7 +29,7 @@ const MOST_BOATS: usize = 256;
 const MOST_WISHES: usize = 16384;
 
 /// Bytes whose header stands.
-// No `impl Model`: by a model, a refused book would be told equal to the old one in its bytes alone, not in its vector.
+// No `impl Model`: by a model, a refused book would be promised to be the old one in its bytes alone, not in its vector.
 #[derive(Drop)]
 pub(crate) struct Layout {
     bytes: Vec<u8>,
@@ -26,7 +39,7 @@ pub(crate) struct Layout {
 impl TryFrom<Vec<u8>> for Layout {
     type Error = Fault;
 
-    ghost try_from_gives = { λ bytes r. Tells r (header_fault bytes.items) × IfOk r (λ layout. layout.bytes ≡ bytes) };
+    ghost try_from_gives = { λ bytes r. (result_err r ≡ header_fault bytes.items) × IfOk r (λ layout. layout.bytes ≡ bytes) };
 
     #[tactic(auto, using(crate::specs::Sound::header_facts))]
     fn try_from(bytes: Vec<u8>) -> Result<Layout, Fault> {
@@ -45,13 +58,13 @@ impl Layout {
     pub(crate) fn boats(&self) -> usize
         ensures { result ≡ boats self.now.bytes.items }
     {
-        number_at(self.bytes(), 0)
+        number_at(self.bytes(), BOATS_AT)
     }
 
     fn wishes(&self) -> usize
         ensures { result ≡ wishes self.now.bytes.items }
     {
-        number_at(self.bytes(), 2)
+        number_at(self.bytes(), WISHES_AT)
     }
 
     /// Where the wishes begin.
@@ -75,50 +88,44 @@ impl Layout {
     #[tactic(auto, unfolding(crate::specs::Books::row_number_fault))]
     pub(crate) fn check_row_number(&self, u: usize) -> Result<(), Fault>
         requires { u ≤ boats self.now.bytes.items }
-        ensures { Tells result (row_number_fault self.now.bytes.items u) }
+        ensures { result_err result ≡ row_number_fault self.now.bytes.items u }
     {
-        let fault = Rule::WrongRowNumber.at(HEADER + 2 * u);
         let number = self.row_number(u);
-        if u == 0 && number != 0 {
-            return Err(fault);
+        let starts = u > 0 || number == 0;
+        let rises = u == 0 || self.row_number(u - 1) <= number;
+        let within = number <= self.wishes();
+        let ends = u < self.boats() || number == self.wishes();
+        if starts && rises && within && ends {
+            Ok(())
+        } else {
+            Err(Rule::WrongRowNumber.at(HEADER + 2 * u))
         }
-        if u > 0 && number < self.row_number(u - 1) {
-            return Err(fault);
-        }
-        let wishes = self.wishes();
-        if number > wishes {
-            return Err(fault);
-        }
-        if u == self.boats() && number != wishes {
-            return Err(fault);
-        }
-        Ok(())
     }
 }
 
 /// The first fault of the header, and of the length that it tells.
 #[tactic(auto, unfolding(crate::specs::Books::header_fault))]
 fn check_header(bytes: &[u8]) -> Result<(), Fault>
-    ensures { Tells result (header_fault bytes.now) }
+    ensures { result_err result ≡ header_fault bytes.now }
 {
     let len = bytes.len();
     if len < HEADER {
         return Err(Rule::BookTooShort.at(len));
     }
-    let boats = number_at(bytes, 0);
+    let boats = number_at(bytes, BOATS_AT);
     if boats > MOST_BOATS {
-        return Err(Rule::BookTooLarge.at(0));
+        return Err(Rule::BookTooLarge.at(BOATS_AT));
     }
-    let wishes = number_at(bytes, 2);
+    let wishes = number_at(bytes, WISHES_AT);
     if wishes > MOST_WISHES {
-        return Err(Rule::BookTooLarge.at(2));
+        return Err(Rule::BookTooLarge.at(WISHES_AT));
     }
-    if number_at(bytes, 4) != HEADER {
-        return Err(Rule::WrongOffset.at(4));
+    if number_at(bytes, TABLE_OFFSET_AT) != HEADER {
+        return Err(Rule::WrongOffset.at(TABLE_OFFSET_AT));
     }
     let start = table_end(boats);
-    if number_at(bytes, 6) != start {
-        return Err(Rule::WrongOffset.at(6));
+    if number_at(bytes, WISHES_OFFSET_AT) != start {
+        return Err(Rule::WrongOffset.at(WISHES_OFFSET_AT));
     }
     if len != start + wishes {
         return Err(Rule::WrongLength.at(len));
@@ -128,8 +135,8 @@ fn check_header(bytes: &[u8]) -> Result<(), Fault>
 
 /// Where the row table of so many boats ends.
 fn table_end(boats: usize) -> usize
-    requires { boats ≤ 65535 }
-    ensures { result ≡ 8 + 2 * (boats + 1) }
+    requires { HEADER + 2 * (boats + 1) < 2 ^ 64 }
+    ensures { result ≡ HEADER + 2 * (boats + 1) }
 {
     HEADER + 2 * (boats + 1)
 }

@@ -1,6 +1,6 @@
 //! The row table of a book, and the rows that it cuts out of the bytes.
 ghost use Rattle.std.specs.Prelude.{◌≡◌, ◌+◌, ◌<◌, ◌≤◌, IfOk};
-ghost use Rattle.exchange.specs.Checks.{Tells};
+ghost use Rattle.std.specs.Result.{result_err};
 ghost use Rattle.exchange.specs.Rows.{row};
 ghost use Rattle.hosts.specs.Books.{boats, row_at, book_rows, table_fault, boat_fault, wishes_fault};
 ghost use Rattle.hosts.specs.Layouts.{TableStands};
@@ -19,7 +19,7 @@ pub(crate) struct Table {
 impl TryFrom<Layout> for Table {
     type Error = Fault;
 
-    ghost try_from_gives = { λ layout r. Tells r (table_fault layout.bytes.items) × IfOk r (λ table. table.layout ≡ layout) };
+    ghost try_from_gives = { λ layout r. (result_err r ≡ table_fault layout.bytes.items) × IfOk r (λ table. table.layout ≡ layout) };
 
     #[tactic(auto, using(exchange::proofs::Checks::none_first, crate::proofs::Books::numbers_stand), unfolding(crate::specs::Books::table_fault))]
     fn try_from(layout: Layout) -> Result<Table, Fault> {
@@ -60,7 +60,7 @@ impl Table {
     /// The first fault of the wishes, row after row.
     #[tactic(auto, using(exchange::proofs::Checks::none_first), unfolding(crate::specs::Books::wishes_fault))]
     pub(crate) fn check_wishes(&self) -> Result<(), Fault>
-        ensures { Tells result (wishes_fault self.now.layout.bytes.items) }
+        ensures { result_err result ≡ wishes_fault self.now.layout.bytes.items }
     {
         for u in 0..self.boats() {
             self.check_row(u)?;
@@ -73,11 +73,12 @@ impl Table {
     #[tactic(auto, using(crate::proofs::Wishes::look, crate::specs::Sound::rows_shown))]
     fn check_row(&self, u: usize) -> Result<(), Fault>
         requires { u < boats self.now.layout.bytes.items }
-        ensures { Tells result (boat_fault self.now.layout.bytes.items u) }
+        ensures { result_err result ≡ boat_fault self.now.layout.bytes.items u }
     {
         let boats = self.boats();
         let at = self.row_at(u);
         let row = self.row(u);
+        // The association, which reads the code, asks for this form here: two loops, left by a label with rule and place.
         'look: {
             for (j, &wish) in row.iter().enumerate() {
                 if usize::from(wish) >= boats {

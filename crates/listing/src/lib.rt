@@ -48,6 +48,6 @@ fn take_bound(input: &mut Vec<u8>) -> u8
     ensures rest { input.new.items ≡ book_of input.old.items }
 {
     input.truncate(MOST_INPUT);
-    // By the rule a missing bound is the number 0, which is refused like any wrong number: no `Option` would be read.
+    // By the rule a missing bound is the number 0, refused like any wrong number: an `Option` would only become 0 in the caller.
     if input.is_empty() { 0 } else { input.remove(0) }
 }
