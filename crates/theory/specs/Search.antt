@@ -75,28 +75,21 @@ abbrev pub entered : ℕ → Frame
 entered v = record { boat = v; place = 0; found = false }
 
 abbrev pub moved : Frame → Frame
-moved f = record { boat = f.boat; place = f.place + 1; found = f.found }
+moved f = record f { place = f.place + 1 }
 
 abbrev pub marked : Frame → Frame
-marked f = record { boat = f.boat; place = f.place; found = true }
+marked f = record f { found = true }
 
 abbrev pub mark_last : List Frame → List Frame
 mark_last [] = []
 mark_last (f ∷ p) = marked f ∷ p
 
 abbrev pub with_path : State → List Frame → State
-with_path st p = record { root = st.root; path = p; locks = st.locks; waiters = st.waiters; entries = st.entries }
+with_path st p = record st { path = p }
 
 -- entering v behind the path p: it is on the path with its depth for a lock, at place 0, not found; one entry more
 abbrev pub enter : State → List Frame → ℕ → State
-enter st p v =
-    record {
-      root = st.root;
-      path = entered v ∷ p;
-      locks = slice_set st.locks v (length p);
-      waiters = st.waiters;
-      entries = counted st.entries;
-    }
+enter st p v = record st { path = entered v ∷ p; locks = slice_set st.locks v (length p); entries = counted st.entries }
 
 -- w may be entered at depth d: it is above the root, and d is below its lock and below the bound
 abbrev pub may_enter : ℕ → ℕ → Locks → ℕ → ℕ → Bool
@@ -141,8 +134,7 @@ wait_each root v (w ∷ ws) waiters = wait_each root v ws (wait_one (nat_le root
 abbrev pub left : State → List Frame → Locks → Waiters → State
 left st [] locks waiters =
     record { root = st.root + 1; path = []; locks = all_free; waiters = no_waiters; entries = st.entries }
-left st (f ∷ p) locks waiters =
-    record { root = st.root; path = f ∷ p; locks = locks; waiters = waiters; entries = st.entries }
+left st (f ∷ p) locks waiters = record st { path = f ∷ p; locks = locks; waiters = waiters }
 
 -- THE STEP
 
