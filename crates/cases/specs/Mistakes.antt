@@ -47,7 +47,7 @@ shortest path [] = 17
 shortest path (r ∷ rings) = min (length_if (begins path r) (length r)) (shortest path rings)
 
 abbrev pub with_locks : State → Locks → State
-with_locks st locks = record { root = st.root; path = st.path; locks = locks; waiters = st.waiters; entries = st.entries }
+with_locks st locks = record st { locks = locks }
 
 abbrev pub if_left : Bool → State → Locks → State
 if_left true st locks = with_locks st locks
