@@ -1,6 +1,7 @@
 -- Two ways to let a found boat go that pass a quick look, and what becomes of the list.
 -- Assumes nothing.
-use Rattle.std.specs.Prelude.{◌≡◌, ℕ, zero, suc, ◌+◌, ◌-◌, min, Bool, true, false, not, ◌&&◌, List, [], ◌∷◌, ◌++◌, reverse, length, ◌==◌, nat_lt, slice_index_or, slice_set}
+use Rattle.std.specs.Prelude.{◌≡◌, ℕ, zero, suc, ◌+◌, ◌-◌, min, Bool, true, false, not, ◌&&◌, List, [], ◌∷◌, ◌++◌, reverse, length, nat_eq, nat_lt, slice_index_or, slice_set}
+use Rattle.std.specs.List.{starts_with}
 use Rattle.exchange.specs.Rows.{Rows, has}
 use Rattle.theory.specs.Search.{Locks, Waiters, Frame, State, Outcome, Ended, Silent, Found, opening, boats, lock, visit, each_mark, release, step}
 use Rattle.theory.specs.Worked.{book_p}
@@ -32,11 +33,6 @@ freed_on_path k d waiters path v locks = release waiters [] v locks
 
 -- THE RULE WITH ANOTHER WAY TO LET GO
 
-abbrev pub begins : List ℕ → List ℕ → Bool
-begins [] r = true
-begins (x ∷ xs) [] = false
-begins (x ∷ xs) (y ∷ ys) = x == y && begins xs ys
-
 abbrev pub length_if : Bool → ℕ → ℕ
 length_if true n = n
 length_if false n = 17
@@ -44,7 +40,7 @@ length_if false n = 17
 -- the length of the shortest of the rings that begins with the path
 abbrev pub shortest : List ℕ → List (List ℕ) → ℕ
 shortest path [] = 17
-shortest path (r ∷ rings) = min (length_if (begins path r) (length r)) (shortest path rings)
+shortest path (r ∷ rings) = min (length_if (starts_with nat_eq r path) (length r)) (shortest path rings)
 
 abbrev pub with_locks : State → Locks → State
 with_locks st locks = record st { locks = locks }
