@@ -1,29 +1,26 @@
 -- A release frees what is reached through waiters off the path and locked, and nothing else.
 -- Assumes nothing.
-use Rattle.std.proofs.Common.{◌≡◌, ℕ, ◌≤◌, true, ◌⊎◌, ◌≢◌, List, set, sym, ◌∙◌, subst, inl, inr, ⊎_elim, arith}
+use Rattle.std.proofs.Common.{◌≡◌, ℕ, ◌≤◌, true, ◌⊎◌, ◌≢◌, List, length, sym, ◌∙◌, subst, inl, inr, ⊎_elim, arith}
 use Rattle.std.proofs.lemmas.List.{ext_get_or}
 use Rattle.std.proofs.lemmas.Bool.{cases_eq}
 use Rattle.exchange.specs.Rows.{◌∈◌}
-use Rattle.theory.specs.Search.{Waiters, free, lock, waits, release_within}
-use Rattle.theory.specs.Releases.{Reached, here, then, Frees}
+use Rattle.theory.specs.Search.{Waiters, free, lock, waits, release}
+use Rattle.theory.specs.Releases.{here, then, Frees}
 use Rattle.theory.specs.Theorems.{Releases}
-use Rattle.theory.proofs.Release.{finite, deep_enough, Released, released}
+use Rattle.theory.proofs.Release.{deep_enough, Near, Released, released}
 
-module _ (waiters : Waiters) (path : List ℕ) (v : ℕ) (l : List ℕ) (depth : ℕ) (deep : finite (set l v free) ≤ depth) where
+module _ (waiters : Waiters) (path : List ℕ) (v : ℕ) (l : List ℕ) (long : length l ≤ 256) where
   abbrev m : List ℕ
-  m = release_within depth waiters path v l
-
-  abbrev Near : ℕ → Type 0
-  Near w = Reached waiters path l v w
+  m = release waiters path v l
 
   pub left : Released waiters path l v v l m
-  left = released waiters path l v depth v l here (λ w h. h) deep
+  left = released waiters path l v 256 v l here (λ w h. h) (deep_enough l v long)
 
-  onward : {w : ℕ} → Near w → (u : ℕ) → waits waiters w u ≡ true → ¬ (u ∈ path) → free ≤ lock m u
+  onward : {w : ℕ} → Near waiters path l v w → (u : ℕ) → waits waiters w u ≡ true → ¬ (u ∈ path) → free ≤ lock m u
   onward here = left.onward
   onward (then {x = x} w c e off low) = left.freed.closed w low (onward c w e off)
 
-  freed : {w : ℕ} → Near w → lock m w ≡ free
+  freed : {w : ℕ} → Near waiters path l v w → lock m w ≡ free
   freed here = left.self
   freed (then w c e off low) = let up = onward c w e off in let a = left.freed.only w in grind arith
 
@@ -40,9 +37,9 @@ module _ (waiters : Waiters) (path : List ℕ) (v : ℕ) (l : List ℕ) (depth :
       }
 
   -- a boat other than v that is reached was locked, so that the locks tell whether it was
-  near_or_not : (w : ℕ) → Near w ⊎ (¬ Near w)
+  near_or_not : (w : ℕ) → Near waiters path l v w ⊎ (¬ Near waiters path l v w)
   near_or_not w =
-      ⊎_elim (λ e. inl (subst Near (sym e) here))
+      ⊎_elim (λ e. inl (subst (Near waiters path l v) (sym e) here))
       (λ n. ⊎_elim (λ a. inr (λ c. let now = freed c in grind arith)) (λ a. inl a.1) (left.freed.only w))
       (cases_eq w v)
 
@@ -52,6 +49,4 @@ module _ (waiters : Waiters) (path : List ℕ) (v : ℕ) (l : List ℕ) (depth :
       (λ w h. ⊎_elim (λ c. a.freed w c ∙ sym (freed c)) (λ c. a.kept w c ∙ sym (frees.kept w c)) (near_or_not w))
 
 pub releases : Releases
-releases waiters path v l long =
-    let deep : finite (set l v free) ≤ 256 = deep_enough l v long in
-    (frees waiters path v l 256 deep, frees_one waiters path v l 256 deep)
+releases waiters path v l long = (frees waiters path v l long, frees_one waiters path v l long)

@@ -1,14 +1,13 @@
 -- The invariant is kept as boats are entered, move on and leave.
 -- Assumes nothing.
 use Rattle.std.proofs.Common.{◌≡◌, ℕ, ◌+◌, ◌<◌, ◌≤◌, true, false, ◌≢◌, List, [], ◌∷◌, length, get_or, take, set, refl, ◌∙◌, subst, inr, arith, rules, length-set}
-use lib.ListN.{length-replicate}
-use Rattle.std.proofs.lemmas.List.{get_or-set_same, get_or-set_other, take_all, take_more}
+use Rattle.std.proofs.lemmas.List.{get_or-set_same, get_or-set_other, length-replicate, take_all, take_more}
 use Rattle.std.proofs.lemmas.Bool.{cases_eq, both_ways}
 use Rattle.exchange.specs.Rows.{Rows, row, ◌∈◌, WellFormed}
 use Rattle.theory.specs.Search.{Waiters, Frame, boats, lock, free, all_free, no_waiters, opening, release, wait_each, wish, moved, marked, entered}
 use Rattle.theory.proofs.Lists.{in_cases, get_or-all}
 use Rattle.theory.proofs.Remaining.{at}
-use Rattle.theory.proofs.Release.{finite, deep_enough, Released}
+use Rattle.theory.proofs.Release.{Released}
 use Rattle.theory.proofs.Closure.{left, stays}
 use Rattle.theory.proofs.Invariant.{Depths, Passed, Seen, Blocked, Wide, Inv}
 use Rattle.theory.proofs.Waiting.{waited, none_wide}
@@ -101,15 +100,15 @@ module _ (rows : Rows) (k : ℕ) (wf : WellFormed rows) (most : k ≤ 16) where
       let v : ℕ = f.boat in
       let o : List ℕ = boats (f ∷ g ∷ p) in
       let m : List ℕ = release waiters o v locks in
-      let deep : finite (set locks v free) ≤ 256 = deep_enough locks v (omega arith) in
-      let r : Released waiters o locks v v locks m = left waiters o v locks 256 deep in
+      let few : length locks ≤ 256 = omega arith in
+      let r : Released waiters o locks v v locks m = left waiters o v locks few in
       record {
         long = r.freed.long ∙ h.long;
         wide = h.wide;
         short = omega arith;
         depths = depths_kept locks m (g ∷ p)
             (λ x i.
-            let a = depth_below locks (g ∷ p) h.depths.1 x i in stays waiters o v locks 256 deep x (inr i) (λ z. grind arith))
+            let a = depth_below locks (g ∷ p) h.depths.1 x i in stays waiters o v locks few x (inr i) (λ z. grind arith))
             h.depths.1;
         seen = λ q. absurd (both_ways true q refl);
         blocked = λ u off low w i. grind (arith, h.blocked u, r.freed.only u, r.freed.only w, r.freed.closed w);

@@ -20,8 +20,9 @@ finite l = count_by (λ x. ltb x free) l
 set_free : (l : List ℕ) (v : ℕ) → lock (set l v free) v ≡ free
 set_free l v = grind (arith, get_or-set_same, get_or_past, set_past, cases_lt v (length l))
 
-set_lower : (l : List ℕ) (v w : ℕ) → lock (set l v free) w < free → lock l w < free
-set_lower l v w h = grind (arith, set_free l v, get_or-set_other, cases_eq w v)
+-- what is locked where v has been freed was locked before
+locked_before : (l : List ℕ) (v w : ℕ) → lock (set l v free) w < free → lock l w < free
+locked_before l v w h = grind (arith, set_free l v, get_or-set_other, cases_eq w v)
 
 -- a boat that was locked is one finite lock less, and no boat is one more
 finite_less : (l : List ℕ) (v : ℕ) → lock l v < free → finite (set l v free) + 1 ≡ finite l
@@ -161,5 +162,5 @@ module _ (waiters : Waiters) (path : List ℕ) (base : List ℕ) (r : ℕ) where
       let same : j ≡ w = omega arith in
       released depth w now (then w near (subst (λ z. waits waiters v z ≡ true) same e) off (low w locked)) low
       (let f = finite_less now w locked in omega arith)))
-      o n (λ w h. under w (set_lower l v w h)) in
+      o n (λ w h. under w (locked_before l v w h)) in
       first_freed v l (release_within (suc depth) waiters path v l) near a.freed (λ u c d. a.each u c u (omega arith) d)
