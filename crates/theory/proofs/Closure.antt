@@ -1,13 +1,13 @@
 -- A release frees what is reached through waiters off the path and locked, and nothing else.
 -- Assumes nothing.
-use Rattle.std.proofs.Common.{◌≡◌, ℕ, ◌≤◌, true, ◌⊎◌, ◌≢◌, List, length, sym, ◌∙◌, subst, inl, inr, ⊎_elim, arith}
+use Rattle.std.proofs.Common.{◌≡◌, ℕ, ◌≤◌, ◌⊎◌, ◌≢◌, List, length, sym, ◌∙◌, subst, inl, inr, ⊎_elim, arith}
 use Rattle.std.proofs.lemmas.List.{ext_get_or}
 use Rattle.std.proofs.lemmas.Bool.{cases_eq}
 use Rattle.exchange.specs.Rows.{◌∈◌}
-use Rattle.theory.specs.Search.{Waiters, free, lock, waits, release}
+use Rattle.theory.specs.Search.{Waiters, free, lock, release}
 use Rattle.theory.specs.Releases.{here, then, Frees}
 use Rattle.theory.specs.Theorems.{Releases}
-use Rattle.theory.proofs.Release.{deep_enough, Near, Released, released}
+use Rattle.theory.proofs.Release.{deep_enough, Near, Onward, Released, released}
 
 module _ (waiters : Waiters) (path : List ℕ) (v : ℕ) (l : List ℕ) (long : length l ≤ 256) where
   abbrev m : List ℕ
@@ -16,7 +16,7 @@ module _ (waiters : Waiters) (path : List ℕ) (v : ℕ) (l : List ℕ) (long : 
   pub left : Released waiters path l v v l m
   left = released waiters path l v 256 v l here (λ w h. h) (deep_enough l v long)
 
-  onward : {w : ℕ} → Near waiters path l v w → (u : ℕ) → waits waiters w u ≡ true → ¬ (u ∈ path) → free ≤ lock m u
+  onward : {w : ℕ} → Near waiters path l v w → Onward waiters path l v m w
   onward here = left.onward
   onward (then {x = x} w c e off low) = left.freed.closed w low (onward c w e off)
 

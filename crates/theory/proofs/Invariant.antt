@@ -11,9 +11,13 @@ abbrev pub Depths : List ℕ → List Frame → Type 0
 Depths locks [] = Unit {0}
 Depths locks (f ∷ p) = (lock locks f.boat ≡ length p) × Depths locks p
 
--- the wishes ws of a boat at depth d - 1 lead to no ring, as the locks tell
+-- the wish w of a boat at depth d - 1 leads to no ring, as the locks tell
+abbrev pub LeadsNowhere : ℕ → ℕ → List ℕ → ℕ → ℕ → Type 0
+LeadsNowhere k s locks d w = (w ≢ s) × (s < w → d < k → lock locks w ≤ d)
+
+-- each of the wishes ws leads to no ring
 abbrev pub Passed : ℕ → ℕ → List ℕ → ℕ → List ℕ → Type 0
-Passed k s locks d ws = (w : ℕ) → w ∈ ws → (w ≢ s) × (s < w → d < k → lock locks w ≤ d)
+Passed k s locks d ws = (w : ℕ) → w ∈ ws → LeadsNowhere k s locks d w
 
 -- so it is with the wishes passed by the boats of the path, down to the last one that is marked found
 abbrev pub Seen : Rows → ℕ → ℕ → List ℕ → List Frame → Type 0

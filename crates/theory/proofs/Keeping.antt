@@ -1,6 +1,6 @@
 -- The invariant is kept as boats are entered, move on and leave.
 -- Assumes nothing.
-use Rattle.std.proofs.Common.{◌≡◌, ℕ, ◌+◌, ◌<◌, ◌≤◌, true, false, ◌≢◌, List, [], ◌∷◌, length, get_or, take, set, refl, ◌∙◌, subst, inr, arith, rules, length-set}
+use Rattle.std.proofs.Common.{◌≡◌, ℕ, ◌+◌, ◌<◌, ◌≤◌, true, false, List, [], ◌∷◌, length, get_or, take, set, refl, ◌∙◌, subst, inr, arith, rules, length-set}
 use Rattle.std.proofs.lemmas.List.{get_or-set_same, get_or-set_other, length-replicate, take_all, take_more}
 use Rattle.std.proofs.lemmas.Bool.{cases_eq, both_ways}
 use Rattle.exchange.specs.Rows.{Rows, row, ◌∈◌, WellFormed}
@@ -9,7 +9,7 @@ use Rattle.theory.proofs.Lists.{in_cases, get_or-all}
 use Rattle.theory.proofs.Remaining.{at}
 use Rattle.theory.proofs.Release.{Released}
 use Rattle.theory.proofs.Closure.{left, stays}
-use Rattle.theory.proofs.Invariant.{Depths, Passed, Seen, Blocked, Wide, Inv}
+use Rattle.theory.proofs.Invariant.{Depths, LeadsNowhere, Passed, Seen, Blocked, Wide, Inv}
 use Rattle.theory.proofs.Waiting.{waited, none_wide}
 use Rattle.theory.proofs.Blocking.{depth_below, depths_kept, locked_in, blocked_enter}
 
@@ -54,7 +54,7 @@ module _ (rows : Rows) (k : ℕ) (wf : WellFormed rows) (most : k ≤ 16) where
 
   -- one wish more that leads to no ring
   pub passed_more : (s d : ℕ) (locks ws : List ℕ) (i : ℕ) → i < length ws → Passed k s locks d (take i ws) →
-      (get_or ws i 0 ≢ s) × (s < get_or ws i 0 → d < k → lock locks (get_or ws i 0) ≤ d) → Passed k s locks d (take (i + 1) ws)
+      LeadsNowhere k s locks d (get_or ws i 0) → Passed k s locks d (take (i + 1) ws)
   passed_more s d locks ws i l h g w m =
       let c = in_cases w (take i ws) (get_or ws i 0 ∷ []) (subst (λ z. w ∈ z) (take_more ws i 0 l) m) in grind (arith, h w)
 
@@ -65,8 +65,7 @@ module _ (rows : Rows) (k : ℕ) (wf : WellFormed rows) (most : k ≤ 16) where
     inv_found = search rules
 
     -- the wish of the last boat is passed by
-    pub inv_passed : f.place < length (row rows f.boat) →
-        (wish rows f ≢ s) × (s < wish rows f → length (f ∷ p) < k → lock locks (wish rows f) ≤ length (f ∷ p)) →
+    pub inv_passed : f.place < length (row rows f.boat) → LeadsNowhere k s locks (length (f ∷ p)) (wish rows f) →
         Inv rows k (at s (moved f ∷ p) locks waiters e)
     inv_passed l g =
         let seen : Seen rows k s locks (moved f ∷ p) =
