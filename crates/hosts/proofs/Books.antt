@@ -4,6 +4,7 @@ use Rattle.std.specs.Prelude.{◌≡◌, ℕ, suc, ◌≤◌, true, List, Some, 
 use Rattle.std.proofs.Common.{subst, arith}
 use Rattle.std.proofs.lemmas.Bool.Decides.{nat_tests}
 use Rattle.exchange.specs.declared.fault.Fault.{Fault}
+use Rattle.exchange.proofs.Checks.{none_at}
 use Rattle.hosts.specs.Books.{boats, wishes, row_number, header_fault, previous, row_number_fault, table_fault, wishes_fault, book_fault, may_hold}
 use Rattle.hosts.specs.Layouts.{TableStands}
 
@@ -14,13 +15,17 @@ number_bounds : (b : List ℕ) (u : ℕ) → row_number_fault b u ≡ None
 unfolding row_number_fault
 number_bounds b u e = grind (arith, nat_tests)
 
--- where every row number keeps its rule
-pub numbers_stand : (b : List ℕ) → ((u : ℕ) → u ≤ boats b → row_number_fault b u ≡ None) → TableStands b
-numbers_stand b none = record {
-  rises = λ u h.
-      subst (λ v. row_number b u ≤ row_number b v) (omega arith) (number_bounds b (suc u) (none (suc u) (omega arith))).0;
-  within = λ u h. (number_bounds b u (none u h)).1;
-}
+-- where the row table has no fault
+pub numbers_stand : (b : List ℕ) → table_fault b ≡ None → TableStands b
+unfolding table_fault
+numbers_stand b e =
+    let none : (u : ℕ) → u ≤ boats b → row_number_fault b u ≡ None =
+    λ u h. none_at (row_number_fault b) 0 _ u e (omega arith) (omega arith) in
+    record {
+      rises = λ u h.
+          subst (λ v. row_number b u ≤ row_number b v) (omega arith) (number_bounds b (suc u) (none (suc u) (omega arith))).0;
+      within = λ u h. (number_bounds b u (none u h)).1;
+    }
 
 -- ---- the checks one after the other
 

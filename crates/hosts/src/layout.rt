@@ -1,7 +1,7 @@
 //! The layout of a book: bytes that are as long as their header says.
 ghost use Rattle.std.specs.Prelude.{◌≡◌, ◌+◌, ◌*◌, ◌^◌, ◌<◌, ◌≤◌, length, IfOk};
 ghost use Rattle.std.specs.Result.{result_err};
-ghost use Rattle.hosts.specs.Books.{number, boats, wishes, row_number, row_number_fault, wishes_at, header_fault};
+ghost use Rattle.hosts.specs.Books.{number, boats, wishes, row_number, row_number_fault, table_fault, wishes_at, header_fault};
 ghost use Rattle.hosts.specs.Layouts.{HeaderStands};
 ghost use Rattle.hosts.specs.declared.layout.TheConstants.{HEADER};
 
@@ -83,10 +83,17 @@ impl Layout {
         number_at(self.bytes(), HEADER + 2 * u)
     }
 
+    /// The first fault of the row table, number after number.
+    pub(crate) fn check_row_numbers(&self) -> Result<(), Fault>
+        ensures { result_err result ≡ table_fault self.now.bytes.items }
+    {
+        (0..=self.boats()).try_for_each(|u| self.check_row_number(u))
+    }
+
     /// The fault of row number `u`: it is 0 at the first, not below the one before it, not above the number of wishes, and
     /// that number at the last.
     #[tactic(auto, unfolding(crate::specs::Books::row_number_fault))]
-    pub(crate) fn check_row_number(&self, u: usize) -> Result<(), Fault>
+    fn check_row_number(&self, u: usize) -> Result<(), Fault>
         requires { u ≤ boats self.now.bytes.items }
         ensures { result_err result ≡ row_number_fault self.now.bytes.items u }
     {

@@ -21,11 +21,9 @@ impl TryFrom<Layout> for Table {
 
     ghost try_from_gives = { λ layout r. (result_err r ≡ table_fault layout.bytes.items) × IfOk r (λ table. table.layout ≡ layout) };
 
-    #[tactic(auto, using(exchange::proofs::Checks::none_first, crate::proofs::Books::numbers_stand), unfolding(crate::specs::Books::table_fault))]
+    #[tactic(auto, using(crate::proofs::Books::numbers_stand))]
     fn try_from(layout: Layout) -> Result<Table, Fault> {
-        for u in 0..=layout.boats() {
-            layout.check_row_number(u)?;
-        }
+        layout.check_row_numbers()?;
         Ok(Table { layout })
     }
 }
@@ -58,14 +56,10 @@ impl Table {
     }
 
     /// The first fault of the wishes, row after row.
-    #[tactic(auto, using(exchange::proofs::Checks::none_first), unfolding(crate::specs::Books::wishes_fault))]
     pub(crate) fn check_wishes(&self) -> Result<(), Fault>
         ensures { result_err result ≡ wishes_fault self.now.layout.bytes.items }
     {
-        for u in 0..self.boats() {
-            self.check_row(u)?;
-        }
-        Ok(())
+        (0..self.boats()).try_for_each(|u| self.check_row(u))
     }
 
     /// The first fault in the row of boat `u`. One look serves the three rules of a wish: it ends at the first byte that

@@ -1,8 +1,9 @@
-use Rattle.std.proofs.Common.{arith}
-use Rattle.exchange.proofs.Checks.{found_first}
+use Rattle.std.proofs.Common.{rules}
+use Rattle.std.proofs.iter.Serving.{returning}
+use Rattle.exchange.proofs.Checks.{first_told}
 use Rattle.hosts.specs.Books.{boat_fault, wishes_fault}
 use Rattle.hosts.proofs.table.Table.check_wishes.Goals as goal
 
-pub returns-in_err-check_row : goal.returns-in_err-check_row
+pub returns : goal.returns
 unfolding wishes_fault
-returns-in_err-check_row c = grind (arith, found_first (boat_fault c.args.self.now.layout.bytes.items))
+returns c = first_told (boat_fault c.args.self.now.layout.bytes.items) _ _ _ _ c.try_for_each.ensures.runs (search (rules, returning)) (search rules)
