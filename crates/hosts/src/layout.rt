@@ -8,16 +8,16 @@ ghost use Rattle.hosts.specs.declared.layout.TheConstants.{HEADER};
 use exchange::{Fault, Rule};
 
 /// Where the header has the number of boats.
-const BOATS_AT: usize = 0;
+const BOAT_COUNT: usize = 0;
 
 /// Where the header has the number of wishes.
-const WISHES_AT: usize = 2;
+const WISH_COUNT: usize = 2;
 
 /// Where the header has the offset of the row table.
-const TABLE_OFFSET_AT: usize = 4;
+const TABLE_OFFSET: usize = 4;
 
 /// Where the header has the offset of the wishes.
-const WISHES_OFFSET_AT: usize = 6;
+const WISHES_OFFSET: usize = 6;
 
 /// How many bytes the header has.
 const HEADER: usize = 8;
@@ -58,13 +58,13 @@ impl Layout {
     pub(crate) fn boats(&self) -> usize
         ensures { result ≡ boats self.now.bytes.items }
     {
-        number_at(self.bytes(), BOATS_AT)
+        number_at(self.bytes(), BOAT_COUNT)
     }
 
     fn wishes(&self) -> usize
         ensures { result ≡ wishes self.now.bytes.items }
     {
-        number_at(self.bytes(), WISHES_AT)
+        number_at(self.bytes(), WISH_COUNT)
     }
 
     /// Where the wishes begin.
@@ -119,20 +119,20 @@ fn check_header(bytes: &[u8]) -> Result<(), Fault>
     if len < HEADER {
         return Err(Rule::BookTooShort.at(len));
     }
-    let boats = number_at(bytes, BOATS_AT);
+    let boats = number_at(bytes, BOAT_COUNT);
     if boats > MOST_BOATS {
-        return Err(Rule::BookTooLarge.at(BOATS_AT));
+        return Err(Rule::BookTooLarge.at(BOAT_COUNT));
     }
-    let wishes = number_at(bytes, WISHES_AT);
+    let wishes = number_at(bytes, WISH_COUNT);
     if wishes > MOST_WISHES {
-        return Err(Rule::BookTooLarge.at(WISHES_AT));
+        return Err(Rule::BookTooLarge.at(WISH_COUNT));
     }
-    if number_at(bytes, TABLE_OFFSET_AT) != HEADER {
-        return Err(Rule::WrongOffset.at(TABLE_OFFSET_AT));
+    if number_at(bytes, TABLE_OFFSET) != HEADER {
+        return Err(Rule::WrongOffset.at(TABLE_OFFSET));
     }
     let start = table_end(boats);
-    if number_at(bytes, WISHES_OFFSET_AT) != start {
-        return Err(Rule::WrongOffset.at(WISHES_OFFSET_AT));
+    if number_at(bytes, WISHES_OFFSET) != start {
+        return Err(Rule::WrongOffset.at(WISHES_OFFSET));
     }
     if len != start + wishes {
         return Err(Rule::WrongLength.at(len));
