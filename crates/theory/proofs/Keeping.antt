@@ -10,7 +10,7 @@ use Rattle.theory.proofs.Remaining.{at}
 use Rattle.theory.proofs.Release.{Released}
 use Rattle.theory.proofs.Closure.{left, stays}
 use Rattle.theory.proofs.Invariant.{Depths, LeadsNowhere, Passed, Seen, Blocked, Wide, Inv}
-use Rattle.theory.proofs.Waiting.{waited, none_wide}
+use Rattle.theory.proofs.Waiting.{wait_keeps, waited, none_wide}
 use Rattle.theory.proofs.Blocking.{depth_below, depths_kept, locked_in, blocked_enter}
 
 module _ (rows : Rows) (k : ℕ) (wf : WellFormed rows) (most : k ≤ 16) where
@@ -88,7 +88,7 @@ module _ (rows : Rows) (k : ℕ) (wf : WellFormed rows) (most : k ≤ 16) where
           short = omega arith;
           depths = h.depths.1;
           seen = (h.seen unfound).1;
-          blocked = λ u off low w i. grind (arith, seen w, h.blocked u, r.does w, r.keeps w u, cases_eq u v);
+          blocked = λ u off low w i. grind (arith, seen w, h.blocked u, r.does w, wait_keeps s v ws waiters w u, cases_eq u v);
         }
 
   -- the last boat leaves and is released; g is the boat before it
