@@ -2,7 +2,6 @@
 use super::samples::{P, changed, complete};
 use exchange::{Fault, Host, Rule, count_wishes};
 use hosts::Book;
-use std::alloc::AllocError;
 use std::test::Fail;
 
 // One byte of P changed, and what is then broken.
@@ -48,6 +47,7 @@ fn a_default_book_is_a_new_one(rt: HostRuntime) {
     let book = Book::default();
     assert_eq!(rt; book.boats(), 0);
     assert_eq!(rt; book.row_len(0), 0);
+    assert_eq!(rt; book.wish(0, 0), None);
 }
 
 #[test]

@@ -1,6 +1,6 @@
 //! Each rule's number and layer, as its line tells them.
 use exchange::{Fault, Rule};
-use std::alloc::{AllocError, AllocFailed, Global};
+use std::alloc::{AllocFailed, Global};
 use std::test::Fail;
 
 const LINES: [(Rule, &str); 23] = [

@@ -4,6 +4,7 @@ ghost use Rattle.std.specs.Prelude.{◌≡◌, ◌≤◌};
 use super::{Fault, Rule};
 
 /// How many boats a ring may have at most: 2 to 16. No other bound can be made.
+// A ghost field and no `impl Model`: a model's value would have to carry the same fact again.
 #[derive(Clone, Copy, PartialEq, Eq, Debug)]
 pub struct Bound {
     number: usize,

@@ -103,6 +103,7 @@ impl Rule {
         // No other rule has this number.
         ensures unique { (other : Rule) → number_of other ≡ result → other ≡ self }
     {
+        // An enum's own number is had by `as` alone.
         self as u8
     }
 

@@ -1,5 +1,6 @@
--- That the rows of accepted bytes are well formed: the proof of the law that a book owes as a host. It stands here because an
--- `impl` may cite nothing of its crate's `proofs/`; it defines nothing that a contract speaks of, and need not be read.
+-- That the rows of accepted bytes are well formed, which proves the law that a book owes as a host, and what that proof and those of
+-- the book's functions share. It stands here because an `impl` may cite nothing of its crate's `proofs/`; it defines nothing that a
+-- contract speaks of, and need not be read.
 -- Assumes nothing.
 use Rattle.std.specs.Prelude.{◌≡◌, ℕ, ◌<◌, ◌≤◌, true, false, ◌≢◌, ◌⊎◌, List, [], ◌∷◌, length, take, None, slice_index, refl}
 use Rattle.std.proofs.Common.{sym, inl, inr, ⊎_elim, arith}

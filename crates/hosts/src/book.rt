@@ -10,7 +10,7 @@ use super::table::Table;
 use exchange::{Fault, Host};
 
 /// Rows in the bytes of the layout. A book holds only bytes that its reader accepted, or none yet.
-// No `impl Model`: callers of a model see no invariant, so the law `sound` would be owed by any rows at all.
+// No `impl Model`: by a model, a refused `fill` would leave the bytes as they were, and not the whole book.
 #[derive(Drop)]
 pub struct Book {
     table: Option<Table>,
@@ -51,6 +51,7 @@ impl Book {
     }
 }
 
+// By hand, since no derive is to be had beside a ghost field.
 impl Default for Book {
     ghost use Rattle.std.specs.Prelude.{◌≡◌, []};
     ghost use Rattle.hosts.specs.Shown.{rows_of};

@@ -8,16 +8,16 @@ ghost use Rattle.hosts.specs.declared.layout.TheConstants.{HEADER};
 use exchange::{Fault, Rule};
 
 /// Where the header has the number of boats.
-const BOAT_COUNT: usize = 0;
+const BOAT_COUNT_AT: usize = 0;
 
 /// Where the header has the number of wishes.
-const WISH_COUNT: usize = 2;
+const WISH_COUNT_AT: usize = 2;
 
 /// Where the header has the offset of the row table.
-const TABLE_OFFSET: usize = 4;
+const TABLE_OFFSET_AT: usize = 4;
 
 /// Where the header has the offset of the wishes.
-const WISHES_OFFSET: usize = 6;
+const WISHES_OFFSET_AT: usize = 6;
 
 /// How many bytes the header has.
 const HEADER: usize = 8;
@@ -29,7 +29,7 @@ const MOST_BOATS: usize = 256;
 const MOST_WISHES: usize = 16384;
 
 /// Bytes whose header stands.
-// No `impl Model`: by a model, a refused book would be promised to be the old one in its bytes alone, not in its vector.
+// No `impl Model`: by a model, a refused `fill` would leave the bytes as they were, and not the whole book.
 #[derive(Drop)]
 pub(crate) struct Layout {
     bytes: Vec<u8>,
@@ -58,20 +58,20 @@ impl Layout {
     pub(crate) fn boats(&self) -> usize
         ensures { result ≡ boats self.now.bytes.items }
     {
-        number_at(self.bytes(), BOAT_COUNT)
+        number_at(self.bytes(), BOAT_COUNT_AT)
     }
 
     fn wishes(&self) -> usize
         ensures { result ≡ wishes self.now.bytes.items }
     {
-        number_at(self.bytes(), WISH_COUNT)
+        number_at(self.bytes(), WISH_COUNT_AT)
     }
 
     /// Where the wishes begin.
     pub(crate) fn wishes_at(&self) -> usize
         ensures { result ≡ wishes_at self.now.bytes.items }
     {
-        table_end(self.boats())
+        row_number_place(self.boats() + 1)
     }
 
     /// Row number `u` of the row table.
@@ -80,7 +80,7 @@ impl Layout {
         requires { u ≤ boats self.now.bytes.items }
         ensures { result ≡ row_number self.now.bytes.items u }
     {
-        number_at(self.bytes(), HEADER + 2 * u)
+        number_at(self.bytes(), row_number_place(u))
     }
 
     /// The first fault of the row table, number after number.
@@ -105,7 +105,7 @@ impl Layout {
         if starts && rises && within && ends {
             Ok(())
         } else {
-            Err(Rule::WrongRowNumber.at(HEADER + 2 * u))
+            Err(Rule::WrongRowNumber.at(row_number_place(u)))
         }
     }
 }
@@ -119,20 +119,20 @@ fn check_header(bytes: &[u8]) -> Result<(), Fault>
     if len < HEADER {
         return Err(Rule::BookTooShort.at(len));
     }
-    let boats = number_at(bytes, BOAT_COUNT);
+    let boats = number_at(bytes, BOAT_COUNT_AT);
     if boats > MOST_BOATS {
-        return Err(Rule::BookTooLarge.at(BOAT_COUNT));
+        return Err(Rule::BookTooLarge.at(BOAT_COUNT_AT));
     }
-    let wishes = number_at(bytes, WISH_COUNT);
+    let wishes = number_at(bytes, WISH_COUNT_AT);
     if wishes > MOST_WISHES {
-        return Err(Rule::BookTooLarge.at(WISH_COUNT));
+        return Err(Rule::BookTooLarge.at(WISH_COUNT_AT));
     }
-    if number_at(bytes, TABLE_OFFSET) != HEADER {
-        return Err(Rule::WrongOffset.at(TABLE_OFFSET));
+    if number_at(bytes, TABLE_OFFSET_AT) != HEADER {
+        return Err(Rule::WrongOffset.at(TABLE_OFFSET_AT));
     }
-    let start = table_end(boats);
-    if number_at(bytes, WISHES_OFFSET) != start {
-        return Err(Rule::WrongOffset.at(WISHES_OFFSET));
+    let start = row_number_place(boats + 1);
+    if number_at(bytes, WISHES_OFFSET_AT) != start {
+        return Err(Rule::WrongOffset.at(WISHES_OFFSET_AT));
     }
     if len != start + wishes {
         return Err(Rule::WrongLength.at(len));
@@ -140,12 +140,12 @@ fn check_header(bytes: &[u8]) -> Result<(), Fault>
     Ok(())
 }
 
-/// Where the row table of so many boats ends.
-fn table_end(boats: usize) -> usize
-    requires { HEADER + 2 * (boats + 1) < 2 ^ 64 }
-    ensures { result ≡ HEADER + 2 * (boats + 1) }
+/// Where row number `u` stands; behind the last one the wishes begin.
+fn row_number_place(u: usize) -> usize
+    requires { HEADER + 2 * u < 2 ^ 64 }
+    ensures { result ≡ HEADER + 2 * u }
 {
-    HEADER + 2 * (boats + 1)
+    HEADER + 2 * u
 }
 
 /// A number of two bytes, the high byte first.

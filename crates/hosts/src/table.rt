@@ -10,6 +10,7 @@ use exchange::{Fault, Rule};
 
 /// A layout whose row numbers stand.
 // The rows stay in the bytes that were handed over: a vector of rows would want memory, and a book asks for none.
+// No `impl Model`, as at `Layout`.
 #[derive(Drop)]
 pub(crate) struct Table {
     layout: Layout,

@@ -32,8 +32,7 @@ pub fn summarize(mut input: Vec<u8>) -> Result<Summary, Fault>
     ensures { result ≡ answer_to input.items }
 {
     let number = take_bound(&mut input);
-    let mut book = Book::new();
-    book.fill(input)?;
+    let book = Book::try_from(input)?;
     let _bound = Bound::try_from(usize::from(number))?;
     Ok(Summary {
         boats: book.boats(),
