@@ -73,7 +73,7 @@ impl Table {
         let boats = self.boats();
         let at = self.row_at(u);
         let row = self.row(u);
-        // The association, which reads the code, asks for this form here: two loops, left by a label with rule and place.
+        // Two loops and a label: a form that was asked for at this place (docs/DECISIONS.md).
         'look: {
             for (j, &wish) in row.iter().enumerate() {
                 if usize::from(wish) >= boats {
