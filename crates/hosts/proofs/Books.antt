@@ -42,6 +42,7 @@ pub wishes_third : (b : List ℕ) (o : Option Fault) → header_fault b ≡ None
 unfolding book_fault
 wishes_third b o h t w = grind arith
 
+-- by these the search puts the three checks together
 pub ruleset checks_in_order = (header_first, table_second, wishes_third)
 
 -- ---- what a book may hold

@@ -11,7 +11,9 @@ use Rattle.exchange.proofs.Checks.{none_first, found_first}
 use Rattle.hosts.specs.Books.{wish_fault, row_fault}
 
 module _ (n u at : ℕ) (row : List ℕ) where
-  pub no_fault : (j : ℕ) → get_or row j 0 < n → get_or row j 0 ≢ u → has (take j row) (get_or row j 0) ≡ false → wish_fault n u at row j ≡ None
+  -- a wish for another of the boats, which stands not earlier in the row, has no fault
+  pub no_fault : (j : ℕ) → get_or row j 0 < n → get_or row j 0 ≢ u → has (take j row) (get_or row j 0) ≡ false
+      → wish_fault n u at row j ≡ None
   unfolding wish_fault
   no_fault j h e r = grind (arith, nat_tests)
 
@@ -30,8 +32,10 @@ module _ (n u at : ℕ) (row : List ℕ) where
     unfolding row_fault wish_fault
     own h e = found_first (wish_fault n u at row) (length row) j _ here before (grind (arith, nat_tests))
 
-    pub repeated : get_or row j 0 < n → get_or row j 0 ≢ u → has (take j row) (get_or row j 0) ≡ true → row_fault n u at row ≡ Some (Refused RepeatedWish (at + j))
+    pub repeated : get_or row j 0 < n → get_or row j 0 ≢ u → has (take j row) (get_or row j 0) ≡ true
+        → row_fault n u at row ≡ Some (Refused RepeatedWish (at + j))
     unfolding row_fault wish_fault
     repeated h e r = found_first (wish_fault n u at row) (length row) j _ here before (grind (arith, nat_tests))
 
+-- by these the search goes along a row
 pub ruleset look = (has_more, take_all, no_fault, none_in_row, unknown, own, repeated)

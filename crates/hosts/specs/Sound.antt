@@ -33,6 +33,7 @@ row_is b u h = get_or-map-range_with_len (book_row b) 0 (boats b) u u [] h (omeg
 pub row_past : (b : List ℕ) (u : ℕ) → boats b ≤ u → row (book_rows b) u ≡ []
 row_past b u h = get_or_past (book_rows b) u [] (let e = length-book_rows b in omega arith)
 
+-- by these the search knows what a book shows
 pub ruleset rows_shown = (length-book_rows, row_is, row_past)
 
 -- ---- the rows of accepted bytes are well formed

@@ -12,7 +12,7 @@ sum-requires-clause-fits g c =
     let total = wish_count_by_boat rows in
     let fits = wish_count_fits rows (g.met.H.Host.sound c.args.host.now) in
     let map = c.map.ensures in
-    let boats = YieldsList-at map.source (YieldsList-from_range 0 c.boats.result (length rows) refl (omega arith)) in
+    let boats = YieldsList-at map.source (YieldsList-from_range _ _ (length rows) refl (omega arith)) in
     fits_by_from_yields_list len _ _ _ (YieldsList-from_map _ len boats map.closure (λ x r q k. search rules)) (omega arith)
 
 pub returns : goal.returns
@@ -20,6 +20,6 @@ returns g c =
     let rows = g.H.Host.rows c.args.host.now in
     let len = λ (u : ℕ). length (row rows u) in
     let map = c.map.ensures in
-    let boats = YieldsList-at map.source (YieldsList-from_range 0 c.boats.result (length rows) refl (omega arith)) in
+    let boats = YieldsList-at map.source (YieldsList-from_range _ _ (length rows) refl (omega arith)) in
     sum_by_from_yields_List len _ _ _ c.sum.ensures.ran (YieldsList-from_map _ len boats map.closure (λ x r q k. search rules))
     ∙ wish_count_by_boat rows
