@@ -1,20 +1,21 @@
 -- A release frees what is reached through waiters off the path and locked, and nothing else.
 -- Assumes nothing.
-use Rattle.std.proofs.Common.{◌≡◌, ℕ, ◌≤◌, ◌⊎◌, ◌≢◌, List, length, sym, ◌∙◌, subst, inl, inr, ⊎_elim, arith}
+use Rattle.std.proofs.Common.{◌≡◌, ℕ, ◌≤◌, ◌⊎◌, ◌≢◌, List, set, sym, ◌∙◌, subst, inl, inr, ⊎_elim, arith}
 use Rattle.std.proofs.lemmas.List.{ext_get_or}
 use Rattle.std.proofs.lemmas.Bool.{cases_eq}
 use Rattle.exchange.specs.Rows.{◌∈◌}
-use Rattle.theory.specs.Search.{Waiters, free, lock, release}
+use Rattle.theory.specs.Search.{Waiters, free, lock, release_within}
 use Rattle.theory.specs.Releases.{here, then, Frees}
 use Rattle.theory.specs.Theorems.{Releases}
-use Rattle.theory.proofs.Release.{deep_enough, Near, Onward, Released, released}
+use Rattle.theory.proofs.Release.{finite, deep_enough, Near, Onward, Released, released}
 
-module _ (waiters : Waiters) (path : List ℕ) (v : ℕ) (l : List ℕ) (long : length l ≤ 256) where
+-- at each depth from the number of locks left on, so that none of them gives another result
+module _ (waiters : Waiters) (path : List ℕ) (v : ℕ) (l : List ℕ) (depth : ℕ) (deep : finite (set l v free) ≤ depth) where
   abbrev m : List ℕ
-  m = release waiters path v l
+  m = release_within depth waiters path v l
 
   pub left : Released waiters path l v v l m
-  left = released waiters path l v 256 v l here (λ w h. h) (deep_enough l v long)
+  left = released waiters path l v depth v l here (λ w h. h) deep
 
   onward : {w : ℕ} → Near waiters path l v w → Onward waiters path l v m w
   onward here = left.onward
@@ -28,7 +29,7 @@ module _ (waiters : Waiters) (path : List ℕ) (v : ℕ) (l : List ℕ) (long : 
   pub stays : (w : ℕ) → w ∈ path → w ≢ v → lock m w ≡ lock l w
   stays w i n = let a = left.freed.only w in grind arith
 
-  frees : Frees waiters path v l m
+  pub frees : Frees waiters path v l m
   frees =
       record {
         long = left.freed.long;
@@ -43,10 +44,12 @@ module _ (waiters : Waiters) (path : List ℕ) (v : ℕ) (l : List ℕ) (long : 
       (λ n. ⊎_elim (λ a. inr (λ c. let now = freed c in grind arith)) (λ a. inl a.1) (left.freed.only w))
       (cases_eq w v)
 
-  frees_one : (o : List ℕ) → Frees waiters path v l o → o ≡ m
+  pub frees_one : (o : List ℕ) → Frees waiters path v l o → o ≡ m
   frees_one o a =
       ext_get_or free o m (a.long ∙ sym frees.long)
       (λ w h. ⊎_elim (λ c. a.freed w c ∙ sym (freed c)) (λ c. a.kept w c ∙ sym (frees.kept w c)) (near_or_not w))
 
 pub releases : Releases
-releases waiters path v l long = (frees waiters path v l long, frees_one waiters path v l long)
+releases waiters path v l long =
+    let deep = deep_enough l v long in
+    (frees waiters path v l 256 deep, frees_one waiters path v l 256 deep)

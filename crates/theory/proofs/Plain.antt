@@ -16,11 +16,28 @@ reverse_on w path t = ap (λ x. x ++ t) (reverse-cons w path) ∙ append_assoc (
 -- ONE ROOT
 
 module _ (rows : Rows) (s : ℕ) where
+  -- each of the boats t but the first is in the row of the one before it, and s is in that of the last
+  abbrev Inside : List ℕ → Type 0
+  Inside [] = Unit {0}
+  Inside (w ∷ t) = Leads rows s w t
+
+  leads_next : (v : ℕ) (t : List ℕ) → Leads rows s v t → next s t ∈ row rows v
+  leads_next v [] l = l
+  leads_next v (w ∷ t) l = l.0
+
+  leads_inside : (v : ℕ) (t : List ℕ) → Leads rows s v t → Inside t
+  leads_inside v [] l = tt
+  leads_inside v (w ∷ t) l = l.1
+
+  leads_from : (v : ℕ) (t : List ℕ) → next s t ∈ row rows v → Inside t → Leads rows s v t
+  leads_from v [] n i = n
+  leads_from v (w ∷ t) n i = (n, i)
+
   -- the boats t may follow the path, and then s: at most j of them
   record Way (j : ℕ) (path t : List ℕ) : Type 0 where
     above : AllByRecursion (λ w. s < w) t
     fresh : Fresh path t
-    leads : (v : ℕ) → next s t ∈ row rows v → Leads rows s v t
+    inside : Inside t
     short : length t ≤ j
 
   -- a ring that begins with the path and goes on by a way whose first step is w
@@ -36,7 +53,7 @@ module _ (rows : Rows) (s : ℕ) where
         t = [];
         is = ⊎_elim (λ k. k) (λ k. absurd k) h ∙ sym (append-nil (reverse path));
         first_step = sym e;
-        way = record { above = tt; fresh = tt; leads = λ v n. n; short = omega arith };
+        way = record { above = tt; fresh = tt; inside = tt; short = omega arith };
       }
 
   part_only : (j : ℕ) (path : List ℕ) (w : ℕ) (r : List ℕ) → r ∈ part rows s j path w → Goes j path w r
@@ -57,23 +74,20 @@ module _ (rows : Rows) (s : ℕ) where
         way = record {
           above = (above, i.way.above);
           fresh = (off, i.way.fresh);
-          leads = λ v n. (n, i.way.leads w (subst (λ x. x ∈ row rows w) (sym i.first_step) g.1));
+          inside = leads_from w i.t (subst (λ x. x ∈ row rows w) (sym i.first_step) g.1) i.way.inside;
           short = omega arith;
         };
       })
 
-  leads_next : (v : ℕ) (t : List ℕ) → Leads rows s v t → next s t ∈ row rows v
-  leads_next v [] l = l
-  leads_next v (w ∷ t) l = l.0
-
-  part_each : (j v : ℕ) (path t : List ℕ) → AllByRecursion (λ w. s < w) t → Fresh path t → Leads rows s v t → length t ≤ j →
-      (reverse path ++ t) ∈ part rows s j path (next s t)
-  part_each j v path [] a f l n = rw (append-nil, choose_back s path s (deeper rows s j path s) refl) (inl refl)
-  part_each zero v path (w ∷ t) a f l n = absurd (omega arith)
-  part_each (suc j) v path (w ∷ t) a f l n =
-      rw (choose_on s path w (onward rows s j (w ∷ path) (row rows w)) a.0 f.0, ← reverse_on w path t)
-      (in_flat_map (part rows s j (w ∷ path)) (row rows w) (reverse (w ∷ path) ++ t) (next s t) (leads_next w t l.1)
-      (part_each j w (w ∷ path) t a.1 f.1 l.1 (omega arith)))
+  part_each : (j : ℕ) (path t : List ℕ) → Way j path t → (reverse path ++ t) ∈ part rows s j path (next s t)
+  part_each j path [] h = rw (append-nil, choose_back s path s (deeper rows s j path s) refl) (inl refl)
+  part_each zero path (w ∷ t) h = absurd (omega (arith, h.short))
+  part_each (suc j) path (w ∷ t) h =
+      let short = h.short in
+      rw (choose_on s path w (onward rows s j (w ∷ path) (row rows w)) h.above.0 h.fresh.0, ← reverse_on w path t)
+      (in_flat_map (part rows s j (w ∷ path)) (row rows w) (reverse (w ∷ path) ++ t) (next s t) (leads_next w t h.inside)
+      (part_each j (w ∷ path) t
+      (record { above = h.above.1; fresh = h.fresh.1; inside = leads_inside w t h.inside; short = omega arith })))
 
   -- of two rings that part behind v, the one with the earlier step comes first
   goes_before : (j v : ℕ) (p b : List ℕ) → reverse (v ∷ p) ≡ s ∷ b → (a c : ℕ) → Earlier (row rows v) a c →
@@ -112,6 +126,9 @@ module _ (rows : Rows) (s : ℕ) where
       let g = flat_map_in (part rows s j (s ∷ [])) (row rows s) r h in
       let i = part_only j (s ∷ []) g.0 r g.2 in
       (i.t, i.is, subst (λ x. x ∈ row rows s) (sym i.first_step) g.1, i.way)
+
+  root_each : (j : ℕ) (t : List ℕ) → next s t ∈ row rows s → Way j (s ∷ []) t → (s ∷ t) ∈ of_root j
+  root_each j t n h = in_flat_map (part rows s j (s ∷ [])) (row rows s) (s ∷ t) (next s t) n (part_each j (s ∷ []) t h)
 
   root_sorted : (j : ℕ) → Sorted (Before rows) (of_root j)
   root_sorted j = sorted_row j s [] [] refl (part_sorted j s [] [] refl)
@@ -155,7 +172,7 @@ module _ (rows : Rows) (k : ℕ) (wf : WellFormed rows) (two : 2 ≤ k) (most : 
   within_from s (w ∷ t) n h =
       record {
         ring = record { two = omega arith; sixteen = omega arith; apart = (λ x. x, h.fresh); least = h.above };
-        of = h.leads s n;
+        of = leads_from rows s s (w ∷ t) n h.inside;
         bound = omega arith;
       }
 
@@ -165,8 +182,8 @@ module _ (rows : Rows) (k : ℕ) (wf : WellFormed rows) (two : 2 ≤ k) (most : 
       let n = leads_next rows s s t h.of in
       let below = row_below rows s (in_some (next s t) (row rows s) n) in
       roots_each rows k 0 (length rows) s (s ∷ t) (omega arith) (omega arith)
-      (in_flat_map (part rows s (k - 1) (s ∷ [])) (row rows s) (s ∷ t) (next s t) n
-      (part_each rows s (k - 1) s (s ∷ []) t h.ring.least h.ring.apart.1 h.of (omega arith)))
+      (root_each rows s (k - 1) t n
+      (record { above = h.ring.least; fresh = h.ring.apart.1; inside = leads_inside rows s s t h.of; short = omega arith }))
 
   only_within : (r : List ℕ) → r ∈ from_roots rows k 0 (length rows) → RingWithin rows k r
   only_within r h =

@@ -17,7 +17,7 @@ use Rattle.theory.proofs.Lists.{has_true, has_false}
 abbrev pub finite : List ℕ → ℕ
 finite l = count_by (λ x. ltb x free) l
 
-set_free : (l : List ℕ) (v : ℕ) → lock (set l v free) v ≡ free
+pub set_free : (l : List ℕ) (v : ℕ) → lock (set l v free) v ≡ free
 set_free l v = grind (arith, get_or-set_same, get_or_past, set_past, cases_lt v (length l))
 
 -- what is locked where v has been freed was locked before

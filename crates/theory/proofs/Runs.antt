@@ -8,6 +8,17 @@ use Rattle.theory.specs.Theorems.{After, Falls, Settled, Stepwise}
 use Rattle.theory.proofs.Work.{work_left, step_falls}
 
 module _ (rows : Rows) (k : ℕ) where
+  joined : {st to last : State} {done rest : List (List ℕ)} → Run rows k st done to → Run rows k to rest last →
+      Run rows k st (done ++ rest) last
+  joined stays b = b
+  joined (goes e a) b = goes e (joined a b)
+  joined (finds e a) b = finds e (joined a b)
+
+  -- rings found on the way, and then those that are handed out from there
+  pub hands_after : {st to : State} {done rest : List (List ℕ)} → Run rows k st done to → Hands rows k to rest →
+      Hands rows k st (done ++ rest)
+  hands_after a h = record { last = h.last; run = joined a h.run; ended = h.ended }
+
   -- what a step makes of what remains, and back
   after : (st : State) (l : List (List ℕ)) (o : Outcome) → step rows k st ≡ o → Hands rows k st l → After rows k l o
   after st l o e h = search rules
@@ -18,13 +29,6 @@ module _ (rows : Rows) (k : ℕ) where
   before st l (Found r st') e h =
       let on = h.2 in
       record { last = on.last; run = subst (λ m. Run rows k st m on.last) (sym h.1) (finds e on.run); ended = on.ended }
-
-  -- rings found on the way, and then those that are handed out from there
-  pub hands_after : {st to : State} {done rest : List (List ℕ)} → Run rows k st done to → Hands rows k to rest →
-      Hands rows k st (done ++ rest)
-  hands_after stays h = h
-  hands_after (goes e run) h = before _ _ _ e (hands_after run h)
-  hands_after (finds e run) h = before _ _ _ e (_, refl, hands_after run h)
 
   -- from each state a list is handed out
   some_after : (st : State) (o : Outcome) → Falls (work_left rows k) st o →

@@ -59,7 +59,10 @@ module _ (rows : Rows) where
         (subst (λ z. Lesser rows z z (rest_of q) (rest_of r)) (parts_first q r k) (lesser_of q r k))
 
     before_asym : (r q : List ℕ) → Before rows r q → Before rows q r → ⊥
-    before_asym r q h k = grind (arith, parts_first r q, parts_first q r, parts_asym r q)
+    before_asym r q (inl h) (inl k) = omega arith
+    before_asym r q (inl h) (inr k) = omega (arith, parts_first q r k)
+    before_asym r q (inr h) (inl k) = omega (arith, parts_first r q h)
+    before_asym r q (inr h) (inr k) = parts_asym r q h k
 
 sorted_same : {A : Type 0} (R : A → A → Type 0) → ((x y : A) → R x y → R y x → ⊥) → (xs ys : List A) → Sorted R xs → Sorted R ys →
     ((x : A) → x ∈ xs → x ∈ ys) → ((x : A) → x ∈ ys → x ∈ xs) → xs ≡ ys

@@ -32,6 +32,11 @@ one_wide true v x waiters l h = search (rules, length-set, All-set)
 one_does : (v x : ℕ) (waiters : Waiters) → x < 256 → v < 256 → Wide waiters → waits (wait_one true v x waiters) x v ≡ true
 one_does v x waiters l n h = grind (arith, get_or-set_same, h.1 x [])
 
+pub wait_wide : (s v : ℕ) (ws : List ℕ) (waiters : Waiters) → ((w : ℕ) → w ∈ ws → w < 256) → Wide waiters →
+    Wide (wait_each s v ws waiters)
+wait_wide s v [] waiters l h = h
+wait_wide s v (x ∷ ws) waiters l h = wait_wide s v ws _ (λ w k. l w (inr k)) (one_wide (leb s x) v x waiters (l x (inl refl)) h)
+
 pub waited : (s v : ℕ) (ws : List ℕ) (waiters : Waiters) → ((w : ℕ) → w ∈ ws → w < 256) → v < 256 → Wide waiters →
     Waits s v ws (wait_each s v ws waiters)
 waited s v [] waiters l n h = record { wide = h; does = λ w m. absurd m }
@@ -40,7 +45,7 @@ waited s v (x ∷ ws) waiters l n h =
     let one = wait_one (leb s x) v x waiters in
     let r = waited s v ws one (λ y k. l y (inr k)) n (one_wide (leb s x) v x waiters small h) in
     record {
-      wide = r.wide;
+      wide = wait_wide s v (x ∷ ws) waiters l h;
       does = λ w. elim [
         | inl e ↦ (λ a. rw e (wait_keeps s v ws one x v (rw (le-leb s x (omega arith)) (one_does v x waiters small n h))))
         | inr m ↦ r.does w m
