@@ -51,7 +51,7 @@ impl Book {
     }
 }
 
-// By hand, since no derive is to be had beside a ghost field.
+// By hand: beside a ghost field `Default` is not derived.
 impl Default for Book {
     ghost use Rattle.std.specs.Prelude.{◌≡◌, []};
     ghost use Rattle.hosts.specs.Shown.{rows_of};
