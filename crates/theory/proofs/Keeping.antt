@@ -7,7 +7,7 @@ use Rattle.exchange.specs.Rows.{Rows, row, ◌∈◌, WellFormed}
 use Rattle.theory.specs.Search.{Waiters, Frame, boats, lock, free, all_free, no_waiters, opening, release, wait_each, wish, moved, marked, entered}
 use Rattle.theory.proofs.Lists.{in_cases, get_or-all}
 use Rattle.theory.proofs.Remaining.{at}
-use Rattle.theory.proofs.Release.{finite, deep_enough, Released}
+use Rattle.theory.proofs.Release.{finite, deep_enough}
 use Rattle.theory.proofs.Closure.{left, stays}
 use Rattle.theory.proofs.Invariant.{Depths, LeadsNowhere, Passed, Seen, Blocked, Wide, Inv}
 use Rattle.theory.proofs.Waiting.{wait_keeps, waited, none_wide}
@@ -100,15 +100,15 @@ module _ (rows : Rows) (k : ℕ) (wf : WellFormed rows) (most : k ≤ 16) where
       let o : List ℕ = boats (f ∷ g ∷ p) in
       let m : List ℕ = release waiters o v locks in
       let deep : finite (set locks v free) ≤ 256 = deep_enough locks v (omega arith) in
-      let r : Released waiters o locks v v locks m = left waiters o v locks 256 deep in
+      let r = left waiters o v locks 256 in
       record {
         long = r.freed.long ∙ h.long;
         wide = h.wide;
         short = omega arith;
         depths = depths_kept locks m (g ∷ p)
             (λ x i.
-            let a = depth_below locks (g ∷ p) h.depths.1 x i in stays waiters o v locks 256 deep x (inr i) (λ z. grind arith))
+            let a = depth_below locks (g ∷ p) h.depths.1 x i in stays waiters o v locks 256 x (inr i) (λ z. grind arith))
             h.depths.1;
         seen = λ q. absurd (both_ways true q refl);
-        blocked = λ u off low w i. grind (arith, h.blocked u, r.freed.only u, r.freed.only w, r.freed.closed w);
+        blocked = λ u off low w i. grind (arith, h.blocked u, r.freed.only u, r.freed.only w, r.freed.closed deep w);
       }

@@ -48,6 +48,10 @@ all_from : {A : Type 0} (P : A → Type 0) (xs : List A) → ((x : A) → x ∈ 
 all_from P [] h = tt
 all_from P (y ∷ ys) h = (h y (inl refl), all_from P ys (λ x k. h x (inr k)))
 
+all_append : {A : Type 0} (P : A → Type 0) (xs ys : List A) → AllByRecursion P xs → AllByRecursion P ys → AllByRecursion P (xs ++ ys)
+all_append P [] ys a b = b
+all_append P (x ∷ xs) ys a b = (a.0, all_append P xs ys a.1 b)
+
 fresh_not : (before xs : List ℕ) (x : ℕ) → Fresh before xs → x ∈ before → ¬ (x ∈ xs)
 fresh_not before [] x f b h = h
 fresh_not before (y ∷ ys) x f b h = grind (arith, fresh_not (y ∷ before) ys x)
@@ -74,7 +78,7 @@ pub sorted-append : {A : Type 0} (R : A → A → Type 0) (xs ys : List A) → S
     ((x y : A) → x ∈ xs → y ∈ ys → R x y) → Sorted R (xs ++ ys)
 sorted-append R [] ys a b h = b
 sorted-append R (x ∷ xs) ys a b h = (
-  all_from (R x) (xs ++ ys) (λ y k. ⊎_elim (λ m. all_in (R x) xs y a.0 m) (λ m. h x y (inl refl) m) (in_cases y xs ys k)),
+  all_append (R x) xs ys a.0 (all_from (R x) ys (λ y k. h x y (inl refl) k)),
   sorted-append R xs ys a.1 b (λ u y m k. h u y (inr m) k),
 )
 

@@ -51,71 +51,74 @@ module _ (waiters : Waiters) (path : List ℕ) (base : List ℕ) (r : ℕ) where
   abbrev pub Onward : List ℕ → ℕ → Type 0
   Onward m w = (u : ℕ) → waits waiters w u ≡ true → ¬ (u ∈ path) → free ≤ lock m u
 
-  -- from the locks l to the locks m, some boats that are reached were freed, with their waiters off the path
-  pub record Freed (l m : List ℕ) : Type 0 where
+  -- from the locks l to the locks m, only boats that are reached were freed, and with each, where the release goes deep enough, its
+  -- waiters off the path
+  pub record Freed (Deep : Type 0) (l m : List ℕ) : Type 0 where
     pub long : length m ≡ length l
     pub fewer : finite m ≤ finite l
     pub only : (w : ℕ) → (lock m w ≡ lock l w) ⊎ ((lock m w ≡ free) × Near w)
-    pub closed : (w : ℕ) → lock l w < free → free ≤ lock m w → Onward m w
+    pub closed : Deep → (w : ℕ) → lock l w < free → free ≤ lock m w → Onward m w
 
   -- the same where v was freed first, which may be on the path
-  pub record Released (v : ℕ) (l m : List ℕ) : Type 0 where
-    pub freed : Freed l m
+  pub record Released (Deep : Type 0) (v : ℕ) (l m : List ℕ) : Type 0 where
+    pub freed : Freed Deep l m
     pub self : lock m v ≡ free
-    pub onward : Onward m v
+    pub onward : Deep → Onward m v
 
-  freed_none : (l : List ℕ) → Freed l l
-  freed_none l =
-      record { long = refl; fewer = omega arith; only = λ w. inl refl; closed = λ w a b u c d. absurd (omega arith) }
+  freed_none : (Deep : Type 0) (l : List ℕ) → Freed Deep l l
+  freed_none Deep l =
+      record { long = refl; fewer = omega arith; only = λ w. inl refl; closed = λ n w a b u c d. absurd (omega arith) }
 
-  keeps_free : (l m : List ℕ) → Freed l m → (u : ℕ) → free ≤ lock l u → free ≤ lock m u
-  keeps_free l m f u e = grind arith
+  keeps_free : {Deep : Type 0} (l m : List ℕ) → Freed Deep l m → (u : ℕ) → free ≤ lock l u → free ≤ lock m u
+  keeps_free l m f u e = let a = f.only u in grind arith
 
-  under_freed : (l m : List ℕ) → Under l → Freed l m → Under m
-  under_freed l m under f w h = grind arith
+  under_freed : {Deep : Type 0} (l m : List ℕ) → Under l → Freed Deep l m → Under m
+  under_freed l m under f w h = let a = f.only w in grind (arith, under w)
 
-  freed_both : (l m o : List ℕ) → Freed l m → Freed m o → Freed l o
-  freed_both l m o f g =
+  freed_both : {Deep Next : Type 0} (l m o : List ℕ) → (Deep → Next) → Freed Deep l m → Freed Next m o → Freed Deep l o
+  freed_both l m o on f g =
       record {
         long = g.long ∙ f.long;
-        fewer = omega arith;
+        fewer = let a = f.fewer in let b = g.fewer in omega arith;
         only = λ w. let a = f.only w in let b = g.only w in grind arith;
-        closed = λ w a b u c d.
-            ⊎_elim (λ n. g.closed w n b u c d) (λ n. keeps_free m o g u (f.closed w a n u c d)) (cases_lt (lock m w) free);
+        closed = λ n w a b u c d.
+            ⊎_elim (λ k. g.closed (on n) w k b u c d) (λ k. keeps_free m o g u (f.closed n w a k u c d)) (cases_lt (lock m w) free);
       }
 
   -- what f does at the mark of w
   abbrev One : ℕ → (ℕ → List ℕ → List ℕ) → ℕ → Type 0
-  One most f w = (l : List ℕ) → finite l ≤ most → Under l → Freed l (f w l) × (¬ (w ∈ path) → free ≤ lock (f w l) w)
+  One most f w =
+      (l : List ℕ) → Under l →
+      Freed (finite l ≤ most) l (f w l) × (finite l ≤ most → ¬ (w ∈ path) → free ≤ lock (f w l) w)
 
   -- what it does at all marks, from the number i on
-  record Marks (i : ℕ) (marks : List Bool) (l m : List ℕ) : Type 0 where
-    freed : Freed l m
-    each : (j : ℕ) → get_or marks j false ≡ true → (u : ℕ) → u ≡ i + j → ¬ (u ∈ path) → free ≤ lock m u
+  record Marks (Deep : Type 0) (i : ℕ) (marks : List Bool) (l m : List ℕ) : Type 0 where
+    freed : Freed Deep l m
+    each : Deep → (j : ℕ) → get_or marks j false ≡ true → (u : ℕ) → u ≡ i + j → ¬ (u ∈ path) → free ≤ lock m u
 
   marks_all : (most : ℕ) (f : ℕ → List ℕ → List ℕ) (i : ℕ) (marks : List Bool) →
       ((j : ℕ) → get_or marks j false ≡ true → (w : ℕ) → w ≡ i + j → One most f w) →
-      (l : List ℕ) → finite l ≤ most → Under l → Marks i marks l (each_mark f i marks l)
-  marks_all most f i [] o l n under = record { freed = freed_none l; each = λ j e. grind arith }
-  marks_all most f i (true ∷ marks) o l n under =
-      let a = o 0 refl i (omega arith) l n under in
-      let r = marks_all most f (suc i) marks (λ j e w at. o (suc j) e w (omega arith)) (f i l) (omega arith)
-      (under_freed l (f i l) under a.0) in
+      (l : List ℕ) → Under l → Marks (finite l ≤ most) i marks l (each_mark f i marks l)
+  marks_all most f i [] o l under = record { freed = freed_none (finite l ≤ most) l; each = λ n j e. grind arith }
+  marks_all most f i (true ∷ marks) o l under =
+      let a = o 0 refl i (omega arith) l under in
+      let less = a.0.fewer in
+      let r = marks_all most f (suc i) marks (λ j e w at. o (suc j) e w (omega arith)) (f i l) (under_freed l (f i l) under a.0) in
       let m : List ℕ = each_mark f (suc i) marks (f i l) in
       record {
-        freed = freed_both l (f i l) m a.0 r.freed;
-        each = elim [
+        freed = freed_both l (f i l) m (λ n. omega arith) a.0 r.freed;
+        each = λ n. elim [
           | zero ↦ (λ e u at off.
               let same : u ≡ i = omega arith in
-              keeps_free (f i l) m r.freed u (rw same (a.1 (subst (λ z. ¬ (z ∈ path)) same off))))
-          | suc j ↦ (λ e u at. r.each j e u (omega arith))
+              keeps_free (f i l) m r.freed u (rw same (a.1 n (subst (λ z. ¬ (z ∈ path)) same off))))
+          | suc j ↦ (λ e u at. r.each (omega arith) j e u (omega arith))
         ];
       }
-  marks_all most f i (false ∷ marks) o l n under =
-      let r = marks_all most f (suc i) marks (λ j e w at. o (suc j) e w (omega arith)) l n under in
+  marks_all most f i (false ∷ marks) o l under =
+      let r = marks_all most f (suc i) marks (λ j e w at. o (suc j) e w (omega arith)) l under in
       record {
         freed = r.freed;
-        each = elim [ zero ↦ (λ e. grind arith) | suc j ↦ (λ e u at. r.each j e u (omega arith)) ];
+        each = λ n. elim [ zero ↦ (λ e. grind arith) | suc j ↦ (λ e u at. r.each n j e u (omega arith)) ];
       }
 
   not_held : (l : List ℕ) (w : ℕ) → held path l w ≡ false → ¬ (w ∈ path) → free ≤ lock l w
@@ -124,43 +127,48 @@ module _ (waiters : Waiters) (path : List ℕ) (base : List ℕ) (r : ℕ) where
   is_held : (l : List ℕ) (w : ℕ) → held path l w ≡ true → ¬ (w ∈ path) × (lock l w < free)
   is_held l w e = grind (arith, nat_tests, has_false path w)
 
-  visited : (w : ℕ) (l : List ℕ) (f : List ℕ → List ℕ) (b : Bool) → held path l w ≡ b →
-      (¬ (w ∈ path) → lock l w < free → Released w l (f l)) →
-      Freed l (visit b f l) × (¬ (w ∈ path) → free ≤ lock (visit b f l) w)
-  visited w l f false e g = (freed_none l, not_held l w e)
+  visited : {Deep Next : Type 0} (w : ℕ) (l : List ℕ) (f : List ℕ → List ℕ) (b : Bool) → held path l w ≡ b →
+      (¬ (w ∈ path) → lock l w < free → (Deep → Next) × Released Next w l (f l)) →
+      Freed Deep l (visit b f l) × (Deep → ¬ (w ∈ path) → free ≤ lock (visit b f l) w)
+  visited {Deep = Deep} w l f false e g = (freed_none Deep l, λ d. not_held l w e)
   visited w l f true e g =
-      let h = is_held l w e in let r = g h.0 h.1 in (r.freed, λ n. omega arith)
+      let h = is_held l w e in
+      let r = g h.0 h.1 in
+      let self = r.1.self in
+      (freed_both l l (f l) r.0 (freed_none _ l) r.1.freed, λ d n. omega arith)
 
-  first_freed : (v : ℕ) (l m : List ℕ) → Near v → Freed (set l v free) m → Onward m v → Released v l m
+  first_freed : {Deep : Type 0} (v : ℕ) (l m : List ℕ) → Near v → Freed Deep (set l v free) m → (Deep → Onward m v) →
+      Released Deep v l m
   first_freed v l m near f g =
       let same : (w : ℕ) → w ≢ v → lock (set l v free) w ≡ lock l w = λ w n. get_or-set_other l v w free free n in
       record {
         freed = record {
           long = f.long ∙ length-set l v free;
-          fewer = let e = finite_falls l v in omega arith;
+          fewer = let e = finite_falls l v in let a = f.fewer in omega arith;
           only = λ w. let k = f.only w in grind (arith, set_free l v, same, cases_eq w v);
-          closed = λ w a b.
-              ⊎_elim (λ e. subst (λ z. Onward m z) (sym e) g) (λ n. f.closed w (rw (same w n) a) b) (cases_eq w v);
+          closed = λ d w a b.
+              ⊎_elim (λ e. subst (λ z. Onward m z) (sym e) (g d)) (λ n. f.closed d w (rw (same w n) a) b) (cases_eq w v);
         };
-        self = grind (arith, set_free l v);
+        self = let k = f.only v in grind (arith, set_free l v);
         onward = g;
       }
 
-  -- a release goes as deep as there are finite locks, and no deeper
-  pub released : (depth v : ℕ) (l : List ℕ) → Near v → Under l → finite (set l v free) ≤ depth →
-      Released v l (release_within depth waiters path v l)
+  -- it is deep enough from the number of finite locks on
+  pub released : (depth v : ℕ) (l : List ℕ) → Near v → Under l →
+      Released (finite (set l v free) ≤ depth) v l (release_within depth waiters path v l)
   unfolding release_within
-  released zero v l near under n =
-      first_freed v l (set l v free) near (freed_none (set l v free)) (λ u c d. none_finite (set l v free) (omega arith) u)
-  released (suc depth) v l near under n =
+  released zero v l near under =
+      first_freed v l (set l v free) near (freed_none _ (set l v free)) (λ n u c d. none_finite (set l v free) (omega arith) u)
+  released (suc depth) v l near under =
       let o : List ℕ = set l v free in
       let on : ℕ → List ℕ → List ℕ = release_within depth waiters path in
       let a = marks_all (suc depth) (λ w now. visit (held path now w) (on w) now) 0 (get_or waiters v [])
-      (λ j e w at now few low.
+      (λ j e w at now low.
       visited w now (on w) (held path now w) refl
       (λ off locked.
-      let same : j ≡ w = omega arith in
-      released depth w now (then w near (subst (λ z. waits waiters v z ≡ true) same e) off (low w locked)) low
-      (let f = finite_less now w locked in omega arith)))
-      o n (λ w h. under w (locked_before l v w h)) in
-      first_freed v l (release_within (suc depth) waiters path v l) near a.freed (λ u c d. a.each u c u (omega arith) d)
+      let same : j ≡ w = omega arith in (
+        λ n. let f = finite_less now w locked in omega arith,
+        released depth w now (then w near (subst (λ z. waits waiters v z ≡ true) same e) off (low w locked)) low,
+      )))
+      o (λ w h. under w (locked_before l v w h)) in
+      first_freed v l (release_within (suc depth) waiters path v l) near a.freed (λ n u c d. a.each n u c u (omega arith) d)

@@ -1,12 +1,12 @@
 -- How many steps a search takes at most, if no lock holds it back: with each step there are fewer.
 -- Assumes nothing.
-use Rattle.std.proofs.Common.{◌≡◌, ℕ, zero, suc, ◌+◌, ◌-◌, ◌<◌, List, [], ◌∷◌, length, get_or, drop, refl, arith}
+use Rattle.std.proofs.Common.{◌≡◌, ℕ, zero, suc, ◌+◌, ◌-◌, ◌<◌, ◌≤◌, Bool, List, [], ◌∷◌, length, get_or, drop, refl, arith}
 use Rattle.std.specs.List.{sum_by}
 use Rattle.std.proofs.lemmas.List.{drop_all}
 use Rattle.std.proofs.lemmas.List.Sums.{sum_by-drop_more}
 use Rattle.std.proofs.lemmas.Bool.Decides.{nat_tests}
 use Rattle.exchange.specs.Rows.{Rows, row}
-use Rattle.theory.specs.Search.{Waiters, Frame, State, step}
+use Rattle.theory.specs.Search.{Waiters, Frame, State, Silent, has_wish, wish, may_enter, on_wish, on_path, used_up, step}
 use Rattle.theory.specs.Theorems.{Falls, Ends}
 use Rattle.theory.proofs.Remaining.{later, at}
 
@@ -60,17 +60,26 @@ module _ (rows : Rows) (k : ℕ) where
   cost_room : (d w : ℕ) → d + 1 < k → cost rows (k - 1 - d) w ≡ work rows (k - 1 - (d + 1)) (row rows w) + 1
   cost_room d w room = let e : k - 1 - d ≡ suc (k - 1 - (d + 1)) = omega arith in rw e refl
 
-  path_falls : (s : ℕ) (f : Frame) (p : List Frame) (locks : List ℕ) (waiters : Waiters) (e : ℕ) →
-      Falls left (at s (f ∷ p) locks waiters e) (step rows k (at s (f ∷ p) locks waiters e))
-  path_falls s f p locks waiters e =
-      let j : ℕ = k - 1 - length p in
-      let ws : List ℕ = row rows f.boat in
-      grind (arith, nat_tests, cost_some rows j, work_pull rows j ws f.place, cost_room (length p), drop_all f.place ws)
+  module _ (s : ℕ) (f : Frame) (p : List Frame) (locks : List ℕ) (waiters : Waiters) (e : ℕ) where
+    abbrev st : State
+    st = at s (f ∷ p) locks waiters e
+
+    wish_falls : f.place < length (row rows f.boat) → (b c : Bool) → may_enter k s locks (length (f ∷ p)) (wish rows f) ≡ c →
+        Falls left st (on_wish b c st f p (wish rows f))
+    wish_falls l b c ec =
+        let j : ℕ = k - 1 - length p in
+        grind (arith, nat_tests, cost_some rows j, work_pull rows j (row rows f.boat) f.place, cost_room (length p))
+
+    used_falls : length (row rows f.boat) ≤ f.place → (b : Bool) → Falls left st (Silent (used_up b rows st f p))
+    used_falls l b = grind (arith, drop_all f.place (row rows f.boat))
+
+    path_falls : (b : Bool) → has_wish rows f ≡ b → Falls left st (on_path b rows k st f p)
+    path_falls b t = grind (arith, nat_tests, wish_falls, used_falls)
 
   at_falls : (s : ℕ) (p : List Frame) (locks : List ℕ) (waiters : Waiters) (e : ℕ) →
       Falls left (at s p locks waiters e) (step rows k (at s p locks waiters e))
   at_falls s [] locks waiters e = root_falls s locks waiters e
-  at_falls s (f ∷ p) locks waiters e = path_falls s f p locks waiters e
+  at_falls s (f ∷ p) locks waiters e = path_falls s f p locks waiters e (has_wish rows f) refl
 
 pub step_falls : (rows : Rows) (k : ℕ) (st : State) → Falls (work_left rows k) st (step rows k st)
 step_falls rows k st = at_falls rows k st.root st.path st.locks st.waiters st.entries
