@@ -87,7 +87,7 @@ impl Layout {
     pub(crate) fn check_row_numbers(&self) -> Result<(), Fault>
         ensures { result_err result ≡ table_fault self.now.bytes.items }
     {
-        // Not `0..=self.boats()`: at each number such a range asks whether it has ended, and the check takes half as long again.
+        // Not `0..=self.boats()`: at each number such a range asks whether it has ended, and the check takes about twice as long.
         (0..self.boats() + 1).try_for_each(|u| self.check_row_number(u))
     }
 
